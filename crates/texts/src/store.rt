@@ -28,7 +28,11 @@ pub impl Text for ByteStore<'_> as ByteStoreText {
     ghost short = { λ s. stored-short (now (s .bytes)) };
 
     fn len(&self) -> usize {
-        if self.bytes.len() <= 16384 { self.bytes.len() } else { 1 }
+        if self.bytes.len() <= 16384 {
+            self.bytes.len()
+        } else {
+            1
+        }
     }
 
     fn cell(&self, place: usize) -> Result<Option<u8>, Fault> {
