@@ -1,0 +1,5 @@
+// The parser of browser queries, over any text: the source's functions under their names.
+pub mod class;
+pub mod scan;
+pub mod token;
+pub mod trial;
