@@ -1,6 +1,6 @@
 -- What is read as a byte stands in the text, and so its place is small.
 use mathlib.Core.Path.{_≡_, refl, sym, ap, _∙_}
-use mathlib.Core.Bool.{Bool, true, false}
+use mathlib.Core.Bool.{Bool, true, false, cond}
 use mathlib.Core.List.{List}
 use mathlib.Core.Logic.{⊎-elim}
 use Prim.Native.Nat.{ℕ, _+_, _<_, _≤_}
@@ -10,6 +10,11 @@ use mir.Val.{Fits}
 use mir.Syntax.{w64}
 use Rattle.std.proofs.shelf.Tests.{cases-lt, both-ways}
 use Rattle.std.proofs.shelf.Lists.{getD-past}
+use Rattle.std.specs.Options.{isSome}
+use Rattle.std.specs.declared.option.Option.the-variants.{Some, None}
+use Rattle.grammar.specs.Classes.{is, digit, numeral}
+use Rattle.grammar.specs.Rule.{ends, look, next, orElse}
+use Rattle.grammar.specs.Tokens.{inner}
 use Rattle.texts.specs.Codes.{code, codes}
 use Rattle.texts.specs.declared.cell.Cell.{Cell}
 use Rattle.parser.specs.Within.{within}
@@ -36,3 +41,8 @@ inside-is g t i b n e l = ⊎-elim (λ h. h) (λ h. absurd (omega (arith, sym e 
 
 pub next-fits : (cs : List Cell) (i : ℕ) → length cs ≤ 16384 → i < length (codes cs) → Fits w64 (i + 1)
 next-fits cs i h l = omega (arith, length-map cs code)
+
+-- a version goes on only within the text
+pub inner-inside : (t : List ℕ) (p : ℕ) → isSome (ends inner t p) ≡ true → p < length t
+inner-inside t p h =
+    inside (λ x. isSome (orElse (cond (digit x) (Some p) None) (next (cond (is 46 x) (Some (p + 1)) None) (λ e. ends (look numeral) t e)))) t p refl h

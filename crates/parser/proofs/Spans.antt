@@ -13,6 +13,7 @@ use Rattle.std.specs.declared.option.Option.the-variants.{Some, None}
 use Rattle.std.proofs.shelf.Tests.{cases-lt, cond-true, cond-false, both-ways}
 use Rattle.std.proofs.shelf.Lists.{getD-drop, drop-more, drop-all}
 use Rattle.grammar.specs.Gives.{Gives}
+use Rattle.grammar.proofs.Shift.{fits-at}
 use Rattle.grammar.specs.Rule.{Rule, ends, one, look, span}
 
 -- the test of a run
@@ -39,33 +40,28 @@ some-cond false n = refl
 pub looks : (f : ℕ → Bool) (t : List ℕ) (p : ℕ) → fits (look f) (drop p t) ≡ f (getD t p 256)
 looks f t p = some-cond (f (getD (drop p t) 0 256)) 0 ∙ ap f (getD-drop p t 0 256 ∙ ap (λ i. getD t i 256) (add-zero p))
 
-pub gives-true : (o : Option ℕ) (p q : ℕ) → Gives o true p q → o ≡ Some q
-gives-true None p q h = absurd (both-ways true (h .0) refl)
-gives-true (Some e) p q h = ap Some (sym (h .1))
+-- one code more of a run
+pub run-more : (r : Rule) (t : List ℕ) (p : ℕ) → p < length t → isSome (ends r t p) ≡ true → span (fits r) (drop p t) ≡ suc (span (fits r) (drop (p + 1) t))
+run-more r t p l h = span-more (fits r) t p l (fits-at r t p ∙ h)
 
-pub gives-false : (o : Option ℕ) (p q : ℕ) → Gives o false p q → o ≡ None
-gives-false None p q h = refl
-gives-false (Some e) p q h = absurd (both-ways false refl (h .0))
+pub run-stop : (r : Rule) (t : List ℕ) (p : ℕ) → isSome (ends r t p) ≡ false → span (fits r) (drop p t) ≡ 0
+run-stop r t p h = span-stop (fits r) t p (fits-at r t p ∙ h)
 
-pub gives-stays : (o : Option ℕ) (p q : ℕ) → Gives o false p q → q ≡ p
-gives-stays None p q h = h .1
-gives-stays (Some e) p q h = absurd (both-ways false refl (h .0))
-
--- one code of a class was taken, or was not
+-- one code of a class was taken
 pub record Taken (f : ℕ → Bool) (t : List ℕ) (p q : ℕ) : Type 0 where
   pub here : f (getD t p 256) ≡ true
   pub on : q ≡ p + 1
 
 pub taken : (f : ℕ → Bool) (t : List ℕ) (p q : ℕ) → Gives (ends (one f) t p) true p q → Taken f t p q
-taken f t p q h = go (f (getD t p 256)) refl h
+taken f t p q h = go (f (getD t p 256)) refl (h .0)
   where
-    go : (v : Bool) → f (getD t p 256) ≡ v → Gives (cond v (Some (p + 1)) None) true p q → Taken f t p q
-    go true e h = record { here = e; on = h .1 }
-    go false e h = absurd (both-ways true (h .0) refl)
+    go : (v : Bool) → f (getD t p 256) ≡ v → cond v (Some (p + 1)) None ≡ Some q → Taken f t p q
+    go true e h = record { here = e; on = cc }
+    go false e h = absurd (let z : _≡_ {A = ℕ} 0 1 = cc in omega arith)
 
 pub untaken : (f : ℕ → Bool) (t : List ℕ) (p q : ℕ) → Gives (ends (one f) t p) false p q → f (getD t p 256) ≡ false
-untaken f t p q h = go (f (getD t p 256)) refl h
+untaken f t p q h = go (f (getD t p 256)) refl (h .0)
   where
-    go : (v : Bool) → f (getD t p 256) ≡ v → Gives (cond v (Some (p + 1)) None) false p q → f (getD t p 256) ≡ false
-    go true e h = absurd (both-ways false refl (h .0))
+    go : (v : Bool) → f (getD t p 256) ≡ v → cond v (Some (p + 1)) None ≡ None → f (getD t p 256) ≡ false
+    go true e h = absurd (let z : _≡_ {A = ℕ} 0 1 = cc in omega arith)
     go false e h = e

@@ -1,5 +1,7 @@
 // The parser of browser queries, over any text: the source's functions under their names.
 pub mod class;
+pub mod number;
+pub mod range;
 pub mod scan;
 pub mod token;
 pub mod trial;

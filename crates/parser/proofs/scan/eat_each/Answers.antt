@@ -1,7 +1,5 @@
 use mathlib.Core.Path.{refl, _∙_}
 use Rattle.texts.specs.Codes.{codes}
-use Rattle.grammar.specs.Rule.{ends}
-use Rattle.grammar.specs.Tokens.{spelled}
 use Rattle.parser.proofs.Spelling.{spelled-turn, spelled-miss, spelled-done}
 use Rattle.parser.proofs.scan.eat_each.Needs as need
 
@@ -15,10 +13,8 @@ loop-b-again g c =
 
 pub returns-then-not-eat-folded : need.returns-then-not-eat-folded
 returns-then-not-eat-folded g c =
-    let t = codes (g .T·Text .cells (c .args .text .now)) in
-    spelled-miss (c .args .bytes .now) t (c .loop-b .b-index) (c .loop-b .place) (c .eat-folded .last .place) (ends (spelled (c .args .bytes .now)) t (c .args .place .now)) (c .loop-b .inv) (c .loop-b-test .taken) (c .if-not-eat-folded .ensures tt)
+    c .loop-b .inv
+    ∙ spelled-miss (c .args .bytes .now) (codes (g .T·Text .cells (c .args .text .now))) (c .loop-b .b-index) (c .loop-b .place) (c .eat-folded .last .place) (c .loop-b-test .taken) (c .if-not-eat-folded .ensures tt)
 
 pub returns : need.returns
-returns g c =
-    let t = codes (g .T·Text .cells (c .args .text .now)) in
-    spelled-done (c .args .bytes .now) t (c .loop-b .b-index) (c .loop-b .place) (ends (spelled (c .args .bytes .now)) t (c .args .place .now)) (c .loop-b .inv) (c .loop-b-test .left)
+returns g c = c .loop-b .inv ∙ spelled-done (c .args .bytes .now) (codes (g .T·Text .cells (c .args .text .now))) (c .loop-b .b-index) (c .loop-b .place) (c .loop-b-test .left)

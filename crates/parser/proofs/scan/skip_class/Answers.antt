@@ -4,10 +4,10 @@ use native.Mathlib.Omega.{arith}
 use lib.ListN.{length, drop}
 use Rattle.std.specs.declared.option.Option.the-variants.{Some}
 use Rattle.texts.specs.Codes.{codes}
-use Rattle.grammar.specs.Rule.{ends, one, look, span}
+use Rattle.grammar.specs.Rule.{look, span}
 use Rattle.parser.specs.Within.{within}
 use Rattle.parser.proofs.Inside.{none-within, inside}
-use Rattle.parser.proofs.Spans.{fits, Taken, taken, untaken, gives-stays, span-more, span-stop, looks}
+use Rattle.parser.proofs.Spans.{fits, Taken, taken, untaken, span-more, span-stop, looks}
 use Rattle.parser.proofs.scan.skip_class.Given as given
 use Rattle.parser.proofs.scan.skip_class.Needs as need
 
@@ -39,6 +39,6 @@ returns g c =
     let h = c .loop-class-test .ensures tt in
     let p = c .loop-class .place in
     let stop = span-stop f t p (looks (within (c .args .class)) t p ∙ untaken (within (c .args .class)) t p (c .eat-class .last .place) h) in
-    let stays = gives-stays (ends (one (within (c .args .class))) t p) p (c .eat-class .last .place) h in
+    let stays = h .1 in
     let e : c .args .place .now + span f (drop (c .args .place .now) t) ≡ c .eat-class .last .place = omega (arith, stop, stays, c .loop-class .inv) in
     ap Some e
