@@ -1,7 +1,7 @@
 -- The query forms, the query and the separator.
 use mathlib.Core.Bool.{Bool, true, false, cond, not, _&&_}
 use mathlib.Core.List.{List}
-use Prim.Native.Nat.{ℕ}
+use Prim.Native.Nat.{ℕ, _+_, _*_}
 use lib.Chars.{codes}
 use lib.Dec.{leb}
 use lib.IntN.{ℤ, pos}
@@ -81,9 +81,13 @@ unreleased = skip (word (codes "unreleased")) (skip blanks (bind (named versions
 abbrev pub since-year : Form year
 since-year = when (byte 45) (read (some digit) (signed-year true)) (skip (maybe (byte 43)) (read (some digit) (signed-year false)))
 
+-- digits, as a month or a day
+abbrev pub calendared : Form number
+calendared = read (some digit) calendar
+
 -- an optional `-` with optional digits, 1 without digits
 abbrev pub since-part : Form number
-since-part = when (byte 45) (first (read (some digit) calendar) (give 1)) (give 1)
+since-part = when (byte 45) (first calendared (give 1)) (give 1)
 
 -- `since`, one blank, year, and directly month and day
 abbrev pub since : Form atom
@@ -127,16 +131,19 @@ operamini = skip (else (word (codes "operamini")) (word (codes "op_mini"))) (ski
 abbrev pub phantom : Form atom
 phantom = skip (word (codes "phantomjs")) (skip blanks (when (spelled (codes "2.1")) (give (Phantom true)) (skip (spelled (codes "1.9")) (give (Phantom false)))))
 
--- exactly two digits; exactly four
-abbrev pub two-digits : Rule
-two-digits = then (one digit) (one digit)
+-- one digit, two and four, as numbers
+abbrev pub one-digit : Form number
+one-digit = read (one digit) value
 
-abbrev pub four-digits : Rule
-four-digits = then two-digits two-digits
+abbrev pub two-digits : Form number
+two-digits = bind one-digit (λ a. bind one-digit (λ b. give (a * 10 + b)))
+
+abbrev pub four-digits : Form number
+four-digits = bind two-digits (λ a. bind two-digits (λ b. give (a * 100 + b)))
 
 -- four, two and two digits joined by `-`: year, month and day together
 abbrev pub dated : Form date
-dated = bind (read {k = number} four-digits value) (λ y. skip (byte 45) (bind (read {k = number} two-digits value) (λ m. skip (byte 45) (bind (read {k = number} two-digits value) (λ d. give (pos y, m, d))))))
+dated = bind four-digits (λ y. skip (byte 45) (bind two-digits (λ m. skip (byte 45) (bind two-digits (λ d. give (pos y, m, d))))))
 
 -- `on` and a date, if `on` is there
 abbrev pub on-date : Form (option date)

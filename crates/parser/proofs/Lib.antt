@@ -1,3 +1,4 @@
+pub mod Digits
 pub mod Inside
 pub mod Spans
 pub mod Spelling
