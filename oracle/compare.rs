@@ -64,25 +64,28 @@ struct Asking {
 }
 
 impl Asking {
-    /// What our library says otherwise than the wanted answer, if anything.
+    /// What our library says otherwise than the wanted answer, if anything. There is room for every record, and
+    /// sometimes more. Every eighth time the text is read again with too little room.
     fn difference(&mut self, text: &[u8], wanted: &Answer<'_>) -> Option<String> {
-        let lent = self.words_to_lend(wanted.records.len());
+        self.turn += 1;
+        let records = wanted.records.len();
+        let odd = if self.turn % 5 == 0 { self.turn % WORDS } else { 0 };
+        let difference = self.difference_lending((records + self.turn % 3) * WORDS + odd, text, wanted);
+        if difference.is_none() && self.turn % 8 == 0 && records > 0 {
+            return self.difference_lending(self.turn / 8 % records * WORDS + odd, text, wanted);
+        }
+        difference
+    }
+
+    fn difference_lending(&mut self, lent: usize, text: &[u8], wanted: &Answer<'_>) -> Option<String> {
         if self.words.len() < lent + BEHIND {
             self.words.resize(lent + BEHIND, UNTOUCHED);
         }
         let given = library::read(text, &mut self.words[..lent], &mut self.outcome[..4]);
-        let judged = judge(wanted, lent, given, &self.words[..lent + BEHIND], &self.outcome);
+        let difference = judge(wanted, lent, given, &self.words[..lent + BEHIND], &self.outcome);
         self.words[..lent + BEHIND].fill(UNTOUCHED);
         self.outcome.fill(UNTOUCHED);
-        judged
-    }
-
-    /// As many words as the records need, or a few more, or, every eighth time, too few. Not always whole records.
-    fn words_to_lend(&mut self, records: usize) -> usize {
-        self.turn += 1;
-        let odd = if self.turn % 5 == 0 { self.turn % WORDS } else { 0 };
-        let slots = if self.turn % 8 == 0 && records > 0 { self.turn / 8 % records } else { records + self.turn % 3 };
-        slots * WORDS + odd
+        difference
     }
 }
 
@@ -110,7 +113,7 @@ fn value_agrees(wanted: &Answer<'_>, i: usize, written: &[u64]) -> bool {
 fn told(wanted: &Answer<'_>, lent: usize, given: u64, words: &[u64], outcome: &[u64; 6]) -> String {
     let mut lines = vec![
         format!("  source: {} given, outcome {:?}", wanted.records.len(), wanted.outcome),
-        format!("  ours:   {given} given, outcome {}", words_shown(outcome)),
+        format!("  ours:   {given} given, outcome {} (lent {lent} words)", words_shown(outcome)),
     ];
     let slots = lent / WORDS;
     for i in 0..slots {
@@ -124,7 +127,7 @@ fn told(wanted: &Answer<'_>, lent: usize, given: u64, words: &[u64], outcome: &[
         }
     }
     if words[slots * WORDS..].iter().any(|word| *word != UNTOUCHED) {
-        lines.push(format!("  ours wrote behind the last of {slots} whole slots in {lent} words"));
+        lines.push(format!("  ours wrote behind the last of {slots} whole slots"));
     }
     lines.join("\n")
 }
