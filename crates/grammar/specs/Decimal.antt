@@ -31,6 +31,9 @@ calendar bs = value bs % 4294967296
 abbrev pub signed-year : Bool → List ℕ → ℤ
 signed-year negative bs = wrapped w32 (cond negative (negℤ (pos (value bs))) (pos (value bs)))
 
--- the year of a baseline: of four digits, of another number of them, or too large
+-- the kind of a baseline year by its value and how many digits it has: four, another number, or too large
+abbrev pub year-kind : ℕ → ℕ → BaselineKind
+year-kind v n = cond (leb v 4294967295) (cond (eqb n 4) (Year v) (LegacyYear v)) InvalidYear
+
 abbrev pub baseline-year : List ℕ → BaselineKind
-baseline-year bs = cond (leb (value bs) 4294967295) (cond (eqb (length bs) 4) (Year (value bs)) (LegacyYear (value bs))) InvalidYear
+baseline-year bs = year-kind (value bs) (length bs)

@@ -19,7 +19,7 @@ use Rattle.grammar.specs.Gives.{GivesValue}
 use Rattle.grammar.specs.Rule.{ends, one, look, run, span}
 use Rattle.grammar.specs.Tokens.{any, some}
 use Rattle.parser.proofs.Inside.{inside}
-use Rattle.parser.proofs.Spans.{fits, looks, span-more, span-stop}
+use Rattle.parser.proofs.Spans.{fits, looks, span-more, span-stop, span-within}
 
 pub between-none : (t : List ℕ) (s : ℕ) → between t s s ≡ []
 between-none t s = ap (λ n. take n (drop s t)) (sub-self s)
@@ -91,3 +91,10 @@ one-value t p d =
 
 pub digit-small : (b : ℕ) → digit b ≡ true → b - 48 < 10
 digit-small b d = let e = and-parts (leb 48 b) (leb b 57) d in omega (arith, leb-true b 57 (e .1))
+
+-- a run of digits ends within the text
+pub digits-within : (t : List ℕ) (p q : ℕ) → digit (getD t p 256) ≡ true → ends (any digit) t p ≡ Some q → q ≤ length t
+digits-within t p q d e =
+    let l = digit-inside t p d in
+    let s : p + span (fits (look digit)) (drop p t) ≡ q = cc in
+    omega (arith, span-within (fits (look digit)) (drop p t), length-drop p t)

@@ -2,3 +2,4 @@ pub mod Digits
 pub mod Inside
 pub mod Spans
 pub mod Spelling
+pub mod Years

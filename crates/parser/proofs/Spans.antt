@@ -32,6 +32,10 @@ span-stop f t p h =
     (λ l. ap (span f) (drop-all p t l))
     (cases-lt p (length t))
 
+pub span-within : (f : List ℕ → Bool) (s : List ℕ) → span f s ≤ length s
+span-within f [] = omega arith
+span-within f (b ∷ bs) = let h = span-within f bs in elim (f (b ∷ bs)) as (λ v. cond v (suc (span f bs)) 0 ≤ suc (length bs)) [ true ↦ omega arith | false ↦ omega arith ]
+
 pub some-cond : (b : Bool) (n : ℕ) → isSome (cond b (Some n) None) ≡ b
 some-cond true n = refl
 some-cond false n = refl

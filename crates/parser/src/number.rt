@@ -22,7 +22,7 @@ use texts::code::code_at;
 use texts::text::Text;
 
 // The digit at a place, as a number.
-fn digit_at<T: Text>(text: &T, place: usize) -> u16
+pub fn digit_at<T: Text>(text: &T, place: usize) -> u16
     ensures { λ r. ⌜ r ≡ getD (codes (T·Text .cells (now (text .entry)))) place 256 - 48 ⌝ }
 {
     code_at(text, place).saturating_sub(48)
@@ -42,7 +42,7 @@ fn digits_u16<T: Text>(text: &T, place: &mut usize) -> u16
 }
 
 // A run of digits, and its value modulo 4,294,967,296.
-fn digits_u32<T: Text>(text: &T, place: &mut usize) -> u32
+pub fn digits_u32<T: Text>(text: &T, place: &mut usize) -> u32
     ensures took { λ _. ⌜ ends (any digit) (codes (T·Text .cells (now (text .entry)))) (now (place .entry)) ≡ Some (now (place .exit)) ⌝ }
     ensures value { λ r. ⌜ r ≡ calendar (between (codes (T·Text .cells (now (text .entry)))) (now (place .entry)) (now (place .exit))) ⌝ }
 {

@@ -1,0 +1,128 @@
+// The query forms, but for those with years and dates.
+ghost use mathlib.Core.Path.{_≡_};
+ghost use mathlib.Core.Bool.{true, false};
+ghost use lib.Chars.{codes as bytes};
+ghost use denote.Ref.{now, name};
+ghost use Rattle.std.specs.declared.option.Option.{Option};
+ghost use Rattle.std.specs.declared.option.Option.the-variants.{Some, None};
+ghost use Rattle.texts.specs.Codes.{codes};
+ghost use Rattle.grammar.specs.Form.{reads, first, whether};
+ghost use Rattle.grammar.specs.Forms.{tail, percentage, cover, named, years, last, unreleased, supporting, fully, partially, current-node, maintained-node, node, firefox-esr, operamini, phantom, defaults, dead, browser, electron-or-browser, committed};
+ghost use Rattle.grammar.specs.Gives.{Gives, GivesValue};
+ghost use Rattle.grammar.specs.Rule.{ends, then, else};
+ghost use Rattle.grammar.specs.Tokens.{blanks, word, versions, reserved, exactly};
+use crate::class::Class;
+use crate::number::parse_u16;
+use crate::range::parse_comparator;
+use crate::range::parse_version_range;
+use crate::scan::eat;
+use crate::scan::match_bytes;
+use crate::scan::match_keyword;
+use crate::scan::match_plural_keyword;
+use crate::scan::peek;
+use crate::token::parse_feature_name;
+use crate::token::parse_identifier;
+use crate::token::parse_region;
+use crate::token::scan_number;
+use crate::token::skip_whitespace;
+use crate::token::skip_whitespace1;
+use crate::trial::Trial;
+use grammar::query::QueryAtom;
+use grammar::query::Span;
+use grammar::query::Stats;
+use grammar::query::SupportKind;
+use grammar::query::VersionRange;
+use texts::text::Text;
+
+// Blanks and `in`.
+fn match_in<T: Text>(text: &T, place: &mut usize) -> bool
+    ensures { λ r. ⌜ Gives (ends (then blanks (word (bytes "in"))) (codes (T·Text .cells (now (text .entry)))) (now (place .entry))) r (now (place .entry)) (now (place .exit)) ⌝ }
+{
+    let mut trial = Trial::begin(place);
+    if !skip_whitespace1(text, trial.place) {
+        return false;
+    }
+    if !match_keyword(text, trial.place, b"in") {
+        return false;
+    }
+    trial.accepted = true;
+    true
+}
+
+// Whose statistics count. Blanks without `in` behind them stay read.
+fn parse_stats<T: Text>(text: &T, place: &mut usize) -> Option<Stats>
+    ensures { λ r. ⌜ GivesValue (reads tail (codes (T·Text .cells (now (text .entry)))) (now (place .entry))) r (now (place .entry)) (now (place .exit)) ⌝ }
+{
+    let mut trial = Trial::begin(place);
+    if match_in(text, trial.place) {
+        if !skip_whitespace1(text, trial.place) {
+            return None;
+        }
+        let region = parse_region(text, trial.place)?;
+        trial.accepted = true;
+        return Some(Stats::Region(region));
+    }
+    skip_whitespace(text, trial.place);
+    trial.accepted = true;
+    Some(Stats::Global)
+}
+
+pub fn parse_percentage<T: Text>(text: &T, place: &mut usize) -> Option<QueryAtom>
+    ensures { λ r. ⌜ GivesValue (reads percentage (codes (T·Text .cells (now (text .entry)))) (now (place .entry))) r (now (place .entry)) (now (place .exit)) ⌝ }
+{
+    let mut trial = Trial::begin(place);
+    let comparator = parse_comparator(text, trial.place)?;
+    skip_whitespace(text, trial.place);
+    let popularity = scan_number(text, trial.place)?;
+    if !eat(text, trial.place, b'%') {
+        return None;
+    }
+    let stats = parse_stats(text, trial.place)?;
+    trial.accepted = true;
+    Some(QueryAtom::Percentage { comparator, popularity, stats })
+}
+
+pub fn parse_cover<T: Text>(text: &T, place: &mut usize) -> Option<QueryAtom>
+    ensures { λ r. ⌜ GivesValue (reads cover (codes (T·Text .cells (now (text .entry)))) (now (place .entry))) r (now (place .entry)) (now (place .exit)) ⌝ }
+{
+    let mut trial = Trial::begin(place);
+    if !match_keyword(text, trial.place, b"cover") {
+        return None;
+    }
+    if !skip_whitespace1(text, trial.place) {
+        return None;
+    }
+    let coverage = scan_number(text, trial.place)?;
+    if !eat(text, trial.place, b'%') {
+        return None;
+    }
+    let stats = parse_stats(text, trial.place)?;
+    trial.accepted = true;
+    Some(QueryAtom::Cover { coverage, stats })
+}
+
+pub fn parse_current_node<T: Text>(text: &T, place: &mut usize) -> Option<QueryAtom>
+    ensures { λ r. ⌜ GivesValue (reads current-node (codes (T·Text .cells (now (text .entry)))) (now (place .entry))) r (now (place .entry)) (now (place .exit)) ⌝ }
+{
+    let mut trial = Trial::begin(place);
+    if !match_keyword(text, trial.place, b"current") {
+        return None;
+    }
+    if !skip_whitespace1(text, trial.place) {
+        return None;
+    }
+    if !match_keyword(text, trial.place, b"node") {
+        return None;
+    }
+    trial.accepted = true;
+    Some(QueryAtom::CurrentNode)
+}
+
+pub fn parse_cover_or_current<T: Text>(text: &T, place: &mut usize) -> Option<QueryAtom>
+    ensures { λ r. ⌜ GivesValue (reads (first cover current-node) (codes (T·Text .cells (now (text .entry)))) (now (place .entry))) r (now (place .entry)) (now (place .exit)) ⌝ }
+{
+    match parse_cover(text, place) {
+        Some(atom) => Some(atom),
+        None => parse_current_node(text, place),
+    }
+}
