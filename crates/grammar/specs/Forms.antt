@@ -182,9 +182,13 @@ defaults = skip (word (codes "defaults")) (give Defaults)
 abbrev pub dead : Form atom
 dead = skip (word (codes "dead")) (give Dead)
 
+-- a range, or blanks and `tp`
+abbrev pub browser-range : Form range
+browser-range = first ranging (skip (then blanks (word (codes "tp"))) (give Preview))
+
 -- a name and directly a range, or a name, blanks and `tp`
 abbrev pub browser : Form atom
-browser = bind (spot name) (λ n. first (bind ranging (λ r. give (Browser n r))) (skip blanks (skip (word (codes "tp")) (give (Browser n Preview)))))
+browser = bind (spot name) (λ n. bind browser-range (λ r. give (Browser n r)))
 
 -- where the word `electron` stands only a range may follow it
 abbrev pub electron-or-browser : Form atom
