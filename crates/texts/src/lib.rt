@@ -3,3 +3,4 @@ pub mod cell;
 pub mod code;
 pub mod store;
 pub mod text;
+pub mod trim;
