@@ -1,0 +1,2 @@
+pub mod BadCells
+pub mod Sequences
