@@ -8,10 +8,13 @@ use lib.ListN.{length, take, drop, length-take, length-drop}
 use Rattle.std.specs.declared.option.Option.the-variants.{Some, None}
 use Rattle.std.specs.declared.result.Result.the-variants.{Ok, Err}
 use Rattle.std.specs.Finite.{nth}
+use Rattle.std.proofs.shelf.Lists.{take-rest}
 use Rattle.std.proofs.shelf.Maps.{nth-past}
 use Rattle.texts.specs.declared.cell.Cell.{Cell}
 use Rattle.texts.specs.Cells.{answer, told}
-use Rattle.texts.specs.Trim.{between}
+use Rattle.texts.specs.Codes.{codes}
+use Rattle.texts.specs.Spaces.{inFront, behind}
+use Rattle.texts.specs.Trim.{between, trimmedBehind, trimmed}
 
 nth-drop : {X : Type 0} (xs : List X) (s p : ℕ) → nth (drop s xs) p ≡ nth xs (s + p)
 nth-drop xs zero p = rw zero-add
@@ -34,3 +37,11 @@ pub between-past : (start end : ℕ) (cells : List Cell) (p : ℕ) → end - sta
 between-past start end cells p h =
     let past : length (between start end cells) ≤ p = simp (length-take, length-drop) (omega arith) in
     sym (ap told (nth-past (between start end cells) p past))
+
+-- the trim's two places
+pub cut-is : (cells : List Cell) (start n kept end : ℕ) → start ≡ inFront (codes cells) → n ≡ length cells → kept ≡ length (between start n cells) - behind (codes (between start n cells)) → end ≡ start + kept → between start end cells ≡ trimmed cells
+cut-is cells start n kept end at-start len keeps at-end =
+    let whole : between start n cells ≡ drop start cells = ap (λ k. take (k - start) (drop start cells)) len ∙ take-rest cells start in
+    let size : end - start ≡ kept = omega arith in
+    ap (λ k. take k (drop start cells)) (size ∙ (keeps ∙ ap (λ l. length l - behind (codes l)) whole))
+    ∙ ap (λ s. trimmedBehind (drop s cells)) at-start

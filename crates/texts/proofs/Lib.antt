@@ -1,3 +1,4 @@
-pub mod Storing
 pub mod Coding
 pub mod Cutting
+pub mod Spacing
+pub mod Storing

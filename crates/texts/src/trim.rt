@@ -6,9 +6,20 @@ ghost use lib.ListN.{length, take, drop};
 ghost use denote.Ref.{now};
 ghost use Rattle.texts.specs.declared.cell.Cell.{Cell};
 ghost use Rattle.texts.specs.Cells.{answer};
-ghost use Rattle.texts.specs.Trim.{between, between-short};
+ghost use Rattle.texts.specs.Codes.{codes};
+ghost use Rattle.texts.specs.Spaces.{inFront, behind};
+ghost use Rattle.texts.specs.Trim.{between, between-short, trimmed};
 use crate::cell::Fault;
+use crate::space::space_behind;
+use crate::space::space_in_front;
 use crate::text::Text;
+
+// How many cells a text has before the white space behind.
+fn kept_before<T: Text>(text: &T) -> usize
+    ensures { λ r. ⌜ r ≡ length (T·Text .cells (now (text .entry))) - behind (codes (T·Text .cells (now (text .entry)))) ⌝ }
+{
+    text.len().saturating_sub(space_behind(text))
+}
 
 // The cells from `start` up to `end` of the text below.
 #[derive(Drop)]
@@ -33,6 +44,22 @@ pub impl<T: Text> Text for Trim<T> as TrimText {
         } else {
             Ok(None)
         }
+    }
+}
+
+impl<T: Text> Trim<T> {
+    // Looks at the text once, in front and then behind.
+    pub fn new(inner: T) -> Trim<T>
+        ensures below { λ r. ⌜ r .inner ≡ inner ⌝ }
+        ensures front { λ r. ⌜ r .start ≡ inFront (codes (T·Text .cells inner)) ⌝ }
+        ensures meaning { λ r. ⌜ between (r .start) (r .end) (T·Text .cells inner) ≡ trimmed (T·Text .cells inner) ⌝ }
+    {
+        let end = inner.len();
+        let start = space_in_front(&inner);
+        let mut cut = Trim { inner, start, end };
+        let kept = kept_before(&cut);
+        cut.end = start + kept;
+        cut
     }
 }
 
