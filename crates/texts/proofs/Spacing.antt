@@ -93,15 +93,29 @@ front-fits c [] = front-at-end c
 front-fits c (d ∷ []) = front-near-end c d
 front-fits c (d ∷ e ∷ cs) = omega (arith, front-wide (spaceFrom c d e) c d e refl)
 
+back-at-end : (c : ℕ) → spaceBack c 256 256 ≤ 1
+back-at-end c = grind (arith, tells)
+
+back-near-end : (c d : ℕ) → spaceBack c d 256 ≤ 2
+back-near-end c d = grind (arith, tells)
+
+back-fits : (c : ℕ) (cs : List ℕ) → spaceBack c (getD cs 0 256) (getD cs 1 256) ≤ suc (length cs)
+back-fits c [] = back-at-end c
+back-fits c (d ∷ []) = back-near-end c d
+back-fits c (d ∷ e ∷ cs) = omega (arith, back-wide (spaceBack c d e) e d c refl)
+
 on-space : (n m : ℕ) (go : ℕ → ℕ) → ((k : ℕ) → n ≡ suc k → go k ≤ m) → onSpace n go ≤ m
 on-space zero m go f = omega arith
 on-space (suc k) m go f = f k refl
 
-leading-within : (cs : List ℕ) (k : ℕ) → k ≤ length cs → leading spaceFrom cs k ≤ length cs
-leading-within [] k h = h
-leading-within (c ∷ cs) zero h =
-    on-space (spaceFrom c (getD cs 0 256) (getD cs 1 256)) (suc (length cs)) (λ k. suc (leading spaceFrom cs k)) (λ k e. let fits = front-fits c cs in let rest = leading-within cs k (omega arith) in omega arith)
-leading-within (c ∷ cs) (suc k) h = let rest = leading-within cs k (omega arith) in omega arith
+leading-within : (space : ℕ → ℕ → ℕ → ℕ) → ((c : ℕ) (cs : List ℕ) → space c (getD cs 0 256) (getD cs 1 256) ≤ suc (length cs)) → (cs : List ℕ) (k : ℕ) → k ≤ length cs → leading space cs k ≤ length cs
+leading-within space fits [] k h = h
+leading-within space fits (c ∷ cs) zero h =
+    on-space (space c (getD cs 0 256) (getD cs 1 256)) (suc (length cs)) (λ k. suc (leading space cs k)) (λ k e. let f = fits c cs in let rest = leading-within space fits cs k (omega arith) in omega arith)
+leading-within space fits (c ∷ cs) (suc k) h = let rest = leading-within space fits cs k (omega arith) in omega arith
 
 pub front-within : (cells : List Cell) → inFront (codes cells) ≤ length cells
-front-within cells = omega (arith, leading-within (codes cells) 0 (omega arith), length-map cells code)
+front-within cells = omega (arith, leading-within spaceFrom front-fits (codes cells) 0 (omega arith), length-map cells code)
+
+pub behind-within : (cs : List ℕ) → behind cs ≤ length cs
+behind-within cs = omega (arith, leading-within spaceBack back-fits (reverse cs) 0 (omega arith), length-reverse cs)

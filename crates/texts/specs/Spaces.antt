@@ -39,6 +39,7 @@ onSpace zero go = 0
 onSpace (suc others) go = go others
 
 -- how many cells the white space in front of a list takes, where the character at hand has `others` still to come
+-- (none at the end of the list: a character ends within it)
 abbrev pub leading : (ℕ → ℕ → ℕ → ℕ) → List ℕ → ℕ → ℕ
 leading space [] others = others
 leading space (c ∷ cs) zero = onSpace (space c (getD cs 0 256) (getD cs 1 256)) (λ others. suc (leading space cs others))

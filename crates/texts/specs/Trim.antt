@@ -1,5 +1,6 @@
 -- A text without the white space at its ends.
-use mathlib.Core.List.{List, [], _∷_}
+use mathlib.Core.List.{List}
+use mathlib.Core.Path.{_≡_}
 use Prim.Native.Nat.{ℕ, _-_, _≤_}
 use native.Mathlib.Omega.{arith}
 use lib.ListN.{length, take, drop, length-take, length-drop}
@@ -25,3 +26,9 @@ trimmedBehind cells = take (length cells - behind (codes cells)) cells
 -- cells without the white space in front, then behind
 abbrev pub trimmed : List Cell → List Cell
 trimmed cells = trimmedBehind (trimmedFront cells)
+
+-- no white space at either end, so that a trim changes nothing
+pub record Clean (cells : List Cell) : Type 0 where
+  pub front : inFront (codes cells) ≡ 0
+  pub back : behind (codes cells) ≡ 0
+  pub once : trimmed cells ≡ cells

@@ -8,7 +8,7 @@ ghost use Rattle.texts.specs.declared.cell.Cell.{Cell};
 ghost use Rattle.texts.specs.Cells.{answer};
 ghost use Rattle.texts.specs.Codes.{codes};
 ghost use Rattle.texts.specs.Spaces.{inFront, behind};
-ghost use Rattle.texts.specs.Trim.{between, between-short, trimmed};
+ghost use Rattle.texts.specs.Trim.{between, between-short, trimmed, Clean};
 use crate::cell::Fault;
 use crate::space::space_behind;
 use crate::space::space_in_front;
@@ -53,6 +53,7 @@ impl<T: Text> Trim<T> {
         ensures below { λ r. ⌜ r .inner ≡ inner ⌝ }
         ensures front { λ r. ⌜ r .start ≡ inFront (codes (T·Text .cells inner)) ⌝ }
         ensures meaning { λ r. ⌜ between (r .start) (r .end) (T·Text .cells inner) ≡ trimmed (T·Text .cells inner) ⌝ }
+        ensures clean { λ r. ⌜ Clean (between (r .start) (r .end) (T·Text .cells inner)) ⌝ }
     {
         let end = inner.len();
         let start = space_in_front(&inner);
