@@ -1,5 +1,1 @@
-pub mod Digits
-pub mod Inside
-pub mod Spans
-pub mod Spelling
-pub mod Years
+pub mod Choice

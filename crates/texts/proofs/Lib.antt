@@ -1,2 +1,6 @@
-pub mod Storing
 pub mod Coding
+pub mod Cutting
+pub mod Spacing
+pub mod Spellings
+pub mod Storing
+pub mod Trimming

@@ -1,0 +1,3 @@
+pub mod BadCells
+pub mod Samples
+pub mod Sequences

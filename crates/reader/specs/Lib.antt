@@ -1,0 +1,3 @@
+pub mod Refusals
+pub mod Start
+pub mod Utf8
