@@ -156,21 +156,27 @@ availability true (Some d) = NewlyAvailableOnDate
 availability false None = WidelyAvailable
 availability false (Some d) = WidelyAvailableOnDate (d .0) (d .1) (d .2)
 
+-- `newly` (true) or `widely` (false)
+abbrev pub newness : Form flag
+newness = when (word (codes "newly")) (give true) (skip (word (codes "widely")) (give false))
+
 -- `newly` or `widely`, `available`, optionally `on` and a date
 abbrev pub available : Form baseline
-available =
-    bind (when (word (codes "newly")) (give {k = flag} true) (skip (word (codes "widely")) (give false)))
-    (λ newly. skip blanks (skip (word (codes "available")) (bind on-date (λ d. give (availability newly d)))))
+available = bind newness (λ newly. skip blanks (skip (word (codes "available")) (bind on-date (λ d. give (availability newly d)))))
 
 -- a year's digits, or an availability
 abbrev pub baseline-kind : Form baseline
 baseline-kind = first (read (some digit) baseline-year) available
 
+-- blanks, a word, blanks and another
+abbrev pub two-words : List ℕ → List ℕ → Rule
+two-words a b = then blanks (then (word a) (then blanks (word b)))
+
 abbrev pub with-downstream : Rule
-with-downstream = then blanks (then (word (codes "with")) (then blanks (word (codes "downstream"))))
+with-downstream = two-words (codes "with") (codes "downstream")
 
 abbrev pub including-kaios : Rule
-including-kaios = then blanks (then (word (codes "including")) (then blanks (word (codes "kaios"))))
+including-kaios = two-words (codes "including") (codes "kaios")
 
 -- `baseline` and its kind, optionally `with downstream`, then optionally `including kaios`
 abbrev pub baselined : Form atom

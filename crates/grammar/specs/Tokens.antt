@@ -23,7 +23,7 @@ abbrev pub some : (ℕ → Bool) → Rule
 some f = then (one f) (any f)
 
 -- these bytes, letters in either case
-abbrev pub spelled : List ℕ → Rule
+unfoldable pub spelled : List ℕ → Rule
 spelled [] = nothing
 spelled (c ∷ w) = then (one (folds c)) (spelled w)
 

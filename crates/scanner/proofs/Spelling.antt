@@ -13,6 +13,7 @@ use Rattle.grammar.specs.Rule.{Rule, ends, one, next}
 use Rattle.grammar.specs.Tokens.{spelled}
 
 spelled-more : (w t : List ℕ) (i p : ℕ) → i < length w → ends (spelled (drop i w)) t p ≡ next (ends (one (folds (getD w i 0))) t p) (λ e. ends (spelled (drop (i + 1) w)) t e)
+unfolding spelled
 spelled-more w t i p l = ap (λ v. ends (spelled v) t p) (drop-more w i 0 l)
 
 pub spelled-turn : (w t : List ℕ) (i p q : ℕ) → i < length w → Gives (ends (one (folds (getD w i 0))) t p) true p q → ends (spelled (drop i w)) t p ≡ ends (spelled (drop (i + 1) w)) t q
@@ -22,4 +23,5 @@ pub spelled-miss : (w t : List ℕ) (i p q : ℕ) → i < length w → Gives (en
 spelled-miss w t i p q l h = spelled-more w t i p l ∙ ap (λ o. next o (λ e. ends (spelled (drop (i + 1) w)) t e)) (h .0)
 
 pub spelled-done : (w t : List ℕ) (i p : ℕ) → length w ≤ i → ends (spelled (drop i w)) t p ≡ Some p
+unfolding spelled
 spelled-done w t i p l = ap (λ v. ends (spelled v) t p) (drop-all i w l)

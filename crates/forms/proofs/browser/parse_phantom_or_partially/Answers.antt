@@ -1,8 +1,8 @@
 use Rattle.texts.specs.Codes.{codes}
 use Rattle.grammar.specs.Form.{reads}
 use Rattle.grammar.specs.Forms.{phantom, partially}
-use Rattle.parser.proofs.Choice.{second}
-use Rattle.parser.proofs.forms.parse_phantom_or_partially.Needs as need
+use Rattle.grammar.proofs.Choice.{second}
+use Rattle.forms.proofs.browser.parse_phantom_or_partially.Needs as need
 
 pub returns-in-None : need.returns-in-None
 returns-in-None g c =
