@@ -1,3 +1,2 @@
 // The parser of browser queries, over any text: the source's functions under their names.
-pub mod dates;
-pub mod forms;
+pub mod unknown;
