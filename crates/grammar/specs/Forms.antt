@@ -1,6 +1,6 @@
 -- The query forms, the query and the separator.
 use mathlib.Core.Bool.{Bool, true, false, cond, not, _&&_}
-use mathlib.Core.List.{List}
+use mathlib.Core.List.{List, [], _∷_}
 use Prim.Native.Nat.{ℕ, _+_, _*_}
 use lib.Chars.{codes}
 use lib.Dec.{leb}
@@ -200,28 +200,38 @@ browser = bind (spot name) (λ n. bind browser-range (λ r. give (Browser n r)))
 abbrev pub electron-or-browser : Form atom
 electron-or-browser = when (word (codes "electron")) (bind ranging (λ r. give (Electron r))) browser
 
--- at a first letter, in either case, these forms
+-- at a first letter, in either case, this form
 abbrev pub at : {k : Kind} → ℕ → Form k → Form k → Form k
 at c f other = when (look (folds c)) f other
 
--- the first letter picks the forms to try, in this order
+-- by the first letter one of these forms, else the other
+abbrev pub among : List (ℕ × Form atom) → Form atom → Form atom
+among [] other = other
+among (x ∷ xs) other = at (x .0) (x .1) (among xs other)
+
+-- the forms of each first letter, in the order in which they are tried
+abbrev pub letters : List (ℕ × Form atom)
+letters =
+    (108, first years last)
+    ∷ (117, unreleased)
+    ∷ (115, first since (supporting None))
+    ∷ (99, first cover current-node)
+    ∷ (110, node)
+    ∷ (102, first firefox-esr fully)
+    ∷ (111, operamini)
+    ∷ (109, maintained-node)
+    ∷ (112, first phantom partially)
+    ∷ (98, baselined)
+    ∷ (100, first defaults dead)
+    ∷ []
+
+-- `<` and `>` have the percentage; every letter, behind its own forms, the browser
 abbrev pub lettered : Form atom
 lettered =
     at 60 percentage
     (at 62 percentage
-    (at 108 (first (first years last) browser)
-    (at 117 (first unreleased browser)
-    (at 115 (first (first since (supporting None)) browser)
-    (at 99 (first (first cover current-node) browser)
     (at 101 electron-or-browser
-    (at 110 (first node browser)
-    (at 102 (first (first firefox-esr fully) browser)
-    (at 111 (first operamini browser)
-    (at 109 (first maintained-node browser)
-    (at 112 (first (first phantom partially) browser)
-    (at 98 (first baselined browser)
-    (at 100 (first (first defaults dead) browser)
-    (when (look letter) browser fail))))))))))))))
+    (when (look letter) (first (among letters fail) browser) fail)))
 
 -- the place that is left where no form fits: behind the word `electron`, if it stands there
 abbrev pub committed : List ℕ → ℕ → ℕ
@@ -247,8 +257,8 @@ abbrev pub separating : Form flag
 separating =
     skip any-blanks
     (when (byte 44) (skip any-blanks (give false))
-    (when (then (word (codes "and")) blanks) (give true)
-    (when (then (word (codes "or")) blanks) (give false) fail)))
+    (when (word (codes "and")) (skip blanks (give true))
+    (skip (word (codes "or")) (skip blanks (give false)))))
 
 -- where a missing separator is missed: behind blanks, and behind a word `and` or `or`
 abbrev pub unseparated : List ℕ → ℕ → ℕ

@@ -1,1 +1,3 @@
+pub mod Electron
+pub mod Negation
 pub mod Unknowns

@@ -36,7 +36,7 @@ blank-inside t p h = inside blank t p refl h
 operator-next : (t : List ℕ) (p : ℕ) → blank (getD t p 256) ≡ true → blank (getD t (p + 1) 256) ≡ true → ends operator t p ≡ ends operator t (p + 1)
 operator-next t p h k =
     let one-more : (p + 1) + span (fits (look blank)) (drop (p + 1) t) ≡ ((p + 1) + 1) + span (fits (look blank)) (drop ((p + 1) + 1) t) =
-        omega (arith, span-more (fits (look blank)) t (p + 1) (blank-inside t (p + 1) k) (looks blank t (p + 1) ∙ k)) in
+    omega (arith, span-more (fits (look blank)) t (p + 1) (blank-inside t (p + 1) k) (looks blank t (p + 1) ∙ k)) in
     let same : ends blanks t p ≡ ends blanks t (p + 1) = blanks-end t p h ∙ (ap Some one-more ∙ sym (blanks-end t (p + 1) k)) in
     (λ i. orElse (cond (blank-code (getD t p 256) h .0 i) (Some (p + 1)) None) (next (same i) (λ e. ends conjunction t e)))
     ∙ sym (λ i. orElse (cond (blank-code (getD t (p + 1) 256) k .0 i) (Some ((p + 1) + 1)) None) (next (ends blanks t (p + 1)) (λ e. ends conjunction t e)))
