@@ -1,3 +1,4 @@
 pub mod Refusals
 pub mod Start
+pub mod Steps
 pub mod Utf8

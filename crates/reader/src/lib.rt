@@ -1,4 +1,5 @@
-// The reader: what it refuses, and the checks that come at start.
+// The reader: what it refuses, the checks that come at start, and the steps.
 pub mod refusal;
 pub mod start;
+pub mod step;
 pub mod utf8;
