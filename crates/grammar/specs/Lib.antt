@@ -5,4 +5,5 @@ pub mod Form
 pub mod Forms
 pub mod Gives
 pub mod Rule
+pub mod Stands
 pub mod Tokens
