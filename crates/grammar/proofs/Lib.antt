@@ -1,1 +1,4 @@
+pub mod Blind
+pub mod Meaning
 pub mod Shift
+pub mod Within

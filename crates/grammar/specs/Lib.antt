@@ -4,6 +4,8 @@ pub mod Decimal
 pub mod Form
 pub mod Forms
 pub mod Gives
+pub mod Laws
 pub mod Rule
 pub mod Stands
+pub mod Tests
 pub mod Tokens
