@@ -34,7 +34,7 @@ edged-stays p true = refl
 edged-stays p false = refl
 
 -- a run stops where its rule is missing, in the text or past it
-run-none : (r : Rule) (t : List ℕ) (p : ℕ) → ends r t p ≡ None → run-end r t p ≡ p
+pub run-none : (r : Rule) (t : List ℕ) (p : ℕ) → ends r t p ≡ None → run-end r t p ≡ p
 run-none r t p e = ⊎-elim (λ h. run-stop r t p h e) (λ h. run-past r t p h) (cases-lt p (length t))
 
 edged-run : (r : Rule) (t : List ℕ) (p : ℕ) (x : Edge) → Edged p (ends r t p) x → Edged p (Some (run-end r t p)) (run-edge x)
@@ -96,7 +96,7 @@ next-same (Some m) f g h = h m refl
 
 module _ (a b : List ℕ) where
   -- the code at the seam is the comma
-  at-comma : getD (a ++ 44 ∷ b) (length a) 256 ≡ 44
+  pub at-comma : getD (a ++ 44 ∷ b) (length a) 256 ≡ 44
   at-comma = ap (λ n. getD (a ++ 44 ∷ b) n 256) (sym (add-zero (length a))) ∙ getD-append-add a (44 ∷ b) 0 256
 
   at-end : getD a (length a) 256 ≡ 256
@@ -172,7 +172,7 @@ onward-same : {A B : Type 0} (o : Outcome A) (f g : A → ℕ → Outcome B) →
 onward-same None f g h = refl
 onward-same (Some x) f g h = h (x .0) (x .1) refl
 
-decided-same : {V : Type 0} (o : Option ℕ) (f g : ℕ → Outcome V) (u w : Outcome V) → ((e : ℕ) → o ≡ Some e → f e ≡ g e) → u ≡ w → decided o f u ≡ decided o g w
+pub decided-same : {V : Type 0} (o : Option ℕ) (f g : ℕ → Outcome V) (u w : Outcome V) → ((e : ℕ) → o ≡ Some e → f e ≡ g e) → u ≡ w → decided o f u ≡ decided o g w
 decided-same None f g u w h k = k
 decided-same (Some e) f g u w h k = h e refl
 

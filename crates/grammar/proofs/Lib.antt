@@ -1,4 +1,5 @@
 pub mod Blind
 pub mod Meaning
+pub mod Queries
 pub mod Shift
 pub mod Within

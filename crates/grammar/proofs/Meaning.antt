@@ -117,6 +117,9 @@ told t (then r q) p = told-then t r q p (told t q) (ends r t p) (told t r p)
 told t (else r q) p = told-else t r q p (ends r t p) (ends q t p) (told t r p) (told t q p)
 told t (unless r q) p = told-unless t r q p (ends r t p) (ends q t p) (told t r p) (told t q p)
 
+pub told-longest : (t : List ℕ) (r : Rule) (p : ℕ) → Longest t r p (run-end r t p)
+told-longest t r p = told-run t r (told t r) (drop p t) p refl
+
 pub ends-stands : (t : List ℕ) (r : Rule) (p e : ℕ) → ends r t p ≡ Some e → Stands t r p e
 ends-stands t r p e h = subst (Told t r p) h (told t r p)
 

@@ -5,6 +5,7 @@ pub mod Form
 pub mod Forms
 pub mod Gives
 pub mod Laws
+pub mod Queries
 pub mod Rule
 pub mod Stands
 pub mod Tests
