@@ -1,6 +1,7 @@
 pub mod Classes
 pub mod Compare
 pub mod Decimal
+pub mod Examples
 pub mod Form
 pub mod Forms
 pub mod Gives
