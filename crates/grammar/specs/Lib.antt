@@ -1,8 +1,13 @@
 pub mod Classes
 pub mod Compare
 pub mod Decimal
+pub mod Examples
 pub mod Form
 pub mod Forms
 pub mod Gives
+pub mod Laws
+pub mod Queries
 pub mod Rule
+pub mod Stands
+pub mod Tests
 pub mod Tokens
