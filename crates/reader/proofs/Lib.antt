@@ -1,3 +1,4 @@
 pub mod BadCells
 pub mod Samples
 pub mod Sequences
+pub mod Stepping

@@ -2,7 +2,7 @@
 use mathlib.Core.Bool.{Bool, true, false, cond}
 use mathlib.Core.List.{List}
 use Prim.Native.Nat.{ℕ, zero, suc, _+_}
-use lib.Dec.{eqb}
+use lib.Dec.{leb}
 use lib.ListN.{length}
 use Rattle.std.specs.declared.option.Option.{Option}
 use Rattle.std.specs.declared.option.Option.the-variants.{Some, None}
@@ -12,6 +12,9 @@ use Rattle.grammar.specs.Form.{Outcome, reads}
 use Rattle.grammar.specs.Forms.{querying, missed, separating, unseparated}
 use Rattle.grammar.specs.declared.query.QueryAtom.{QueryAtom}
 use Rattle.grammar.specs.declared.query.SingleQuery.{SingleQuery}
+use Rattle.texts.specs.declared.cell.Cell.{Cell}
+use Rattle.texts.specs.Codes.{codes}
+use Rattle.texts.specs.Trim.{between}
 use Rattle.reader.specs.declared.refusal.Refusal.{Refusal}
 use Rattle.reader.specs.declared.refusal.Refusal.the-variants.{NoReading}
 use Rattle.reader.specs.declared.step.Step.{Step}
@@ -46,9 +49,9 @@ abbrev pub answered : Result SingleQuery ℕ → Result Step Refusal
 answered (Ok q) = Ok (Given q)
 answered (Err m) = Err (NoReading m)
 
--- what a step answers behind k queries, the last of which ends at p
+-- what a step answers behind k queries, the last of which ends at p: "end" where no code is left
 abbrev pub stepped : List ℕ → ℕ → ℕ → Result Step Refusal
-stepped t k p = cond (eqb p (length t)) (Ok End) (answered (queryK t k p))
+stepped t k p = cond (leb (length t) p) (Ok End) (answered (queryK t k p))
 
 -- the place behind the answer of a step that began at p
 abbrev pub placeAfter : Result Step Refusal → ℕ → ℕ
@@ -61,3 +64,7 @@ abbrev pub countAfter : Result Step Refusal → ℕ → ℕ
 countAfter (Ok (Given q)) k = k + 1
 countAfter (Ok End) k = k
 countAfter (Err r) k = k
+
+-- the codes of the cells from one place up to another
+abbrev pub shown : ℕ → ℕ → List Cell → List ℕ
+shown start end cells = codes (between start end cells)
