@@ -1,0 +1,2 @@
+// Entry points for C and Rust, on numbers and slices.
+pub mod layout;
