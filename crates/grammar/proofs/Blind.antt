@@ -160,7 +160,7 @@ module _ (a b : List ℕ) where
   pub rule-blind : (r : Rule) → tame r ≡ true → shy r ≡ true → (p : ℕ) → p ≤ length a → ends r (a ++ 44 ∷ b) p ≡ ends r a p
   rule-blind r m s p l = let w = and-parts (steady r) (settled r) s in to-seam r (w .1) (before r m (w .0)) p l
 
-  between-same : (p e : ℕ) → p ≤ e → e ≤ length a → between (a ++ 44 ∷ b) p e ≡ between a p e
+  pub between-same : (p e : ℕ) → p ≤ e → e ≤ length a → between (a ++ 44 ∷ b) p e ≡ between a p e
   between-same p e h k =
       ap (take (e - p)) (drop-append-le p a (44 ∷ b) (omega arith)) ∙ take-append-le (e - p) (drop p a) (44 ∷ b) (omega (arith, length-drop p a))
 
