@@ -1,17 +1,17 @@
 -- What stands before a place does not matter to a form, but that it moves places along.
-use mathlib.Core.Path.{_≡_, refl, sym, ap, subst, _∙_}
-use mathlib.Core.List.{List, [], _∷_}
-use Prim.Native.Nat.{ℕ, _+_, _-_, _≤_, _<_}
+use mathlib.Core.Path.{_≡_, refl, sym, ap, _∙_}
+use mathlib.Core.List.{List}
+use Prim.Native.Nat.{ℕ, _+_, _-_}
 use native.Mathlib.Omega.{arith}
-use lib.ListN.{length, take, drop}
+use lib.ListN.{take, drop}
 use Rattle.std.specs.Options.{mapped}
 use Rattle.std.specs.declared.option.Option.{Option}
 use Rattle.std.specs.declared.option.Option.the-variants.{Some, None}
 use Rattle.std.proofs.shelf.Lists.{drop-drop}
-use Rattle.grammar.specs.Rule.{Rule, ends}
-use Rattle.grammar.specs.Form.{Kind, part, Value, Form, give, fail, spot, read, bind, when, first, between, Outcome, spotted, valued, onward, decided, firstOf, reads}
+use Rattle.grammar.specs.Rule.{ends}
+use Rattle.grammar.specs.Form.{Kind, Form, between, Outcome, spotted, valued, onward, decided, firstOf, reads}
 use Rattle.grammar.specs.Readings.{carried}
-use Rattle.grammar.specs.Along.{along, span-along, Moves, moves-give, moves-fail, moves-spot, moves-read, moves-bind, moves-when, moves-first, Form-shift}
+use Rattle.grammar.specs.Along.{along, span-along, Moves, moves-give, moves-fail, moves-spot, moves-read, moves-bind, moves-when, moves-first}
 use Rattle.grammar.proofs.Shift.{shift}
 
 between-shift : (t : List ℕ) (n p e : ℕ) → between t (n + p) (n + e) ≡ between (drop n t) p e

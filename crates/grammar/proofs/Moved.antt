@@ -1,11 +1,10 @@
 -- The query and the separator say the same behind more codes, so that they make a sound grammar, and the laws of readings hold of it.
 use mathlib.Core.Path.{_≡_, refl}
-use mathlib.Core.Bool.{Bool, true, false}
+use mathlib.Core.Bool.{Bool}
 use Prim.Native.Nat.{ℕ}
-use Rattle.std.specs.declared.option.Option.{Option}
 use Rattle.std.specs.declared.option.Option.the-variants.{Some, None}
-use Rattle.grammar.specs.Form.{Value, option, date, range, atom, flag, query, reads}
-use Rattle.grammar.specs.Forms.{availability, ranging, browser, lettered, unknown, formed, querying, separating}
+use Rattle.grammar.specs.Form.{Value, option, date, atom, flag, query}
+use Rattle.grammar.specs.Forms.{availability, browser, lettered, querying, separating}
 use Rattle.grammar.specs.Along.{along, Moves, moves-give, moves-fail, moves-spot, moves-read, moves-bind, moves-when, moves-first, queries}
 use Rattle.grammar.specs.Readings.{Sound, Single, Spells, Joins}
 use Rattle.grammar.proofs.Along.{form-shift}

@@ -1,21 +1,20 @@
 -- The query and the separator pass the tests, so that the laws hold of them.
-use mathlib.Core.Path.{_≡_, refl, sym, ap, subst, _∙_}
-use mathlib.Core.Bool.{Bool, true, false, cond}
-use mathlib.Core.Logic.{inl, inr, ⊎-elim}
-use mathlib.Core.List.{List, [], _∷_, _++_}
-use Prim.Native.Nat.{ℕ, _+_, _-_, _≤_, _<_}
+use mathlib.Core.Path.{_≡_, refl, ap, subst, _∙_}
+use mathlib.Core.Bool.{true, false, cond}
+use mathlib.Core.Logic.{_⊎_, inl, inr, ⊎-elim}
+use mathlib.Core.List.{List, _∷_, _++_}
+use Prim.Native.Nat.{ℕ, _+_, _-_, _<_}
 use native.Mathlib.Omega.{arith}
 use lib.Chars.{codes}
-use lib.ListN.{length, getD, length-append}
-use Rattle.std.specs.declared.option.Option.{Option}
+use lib.ListN.{length, getD}
 use Rattle.std.specs.declared.option.Option.the-variants.{Some, None}
 use Rattle.std.proofs.shelf.Tests.{cases-lt}
 use Rattle.std.proofs.shelf.Lists.{getD-append-left, getD-append-add}
 use Rattle.grammar.specs.Classes.{is, blank}
 use Rattle.grammar.specs.Rule.{Rule, look, then, ends}
 use Rattle.grammar.specs.Tokens.{byte, word, blanks, any-blanks}
-use Rattle.grammar.specs.Form.{Kind, flag, query, Value, Form, give, fail, when, skip, decided, reads}
-use Rattle.grammar.specs.Forms.{ranging, percentage, browser, lettered, unknown, formed, querying, separating}
+use Rattle.grammar.specs.Form.{Kind, flag, query, Form, give, fail, when, skip, decided, reads}
+use Rattle.grammar.specs.Forms.{comparing, ranging, percentage, browser, lettered, unknown, formed, querying, separating}
 use Rattle.grammar.specs.Stands.{Longest, longest-end, longest-stop, longest-on}
 use Rattle.grammar.specs.Tests.{TameForm, ShyForm, SolidForm}
 use Rattle.grammar.specs.Queries.{Fits, Query-fits, Separator-fits, Query-blind, Separator-apart, Separator-comma}
@@ -32,64 +31,27 @@ shy-browser = search tt depth 20
 shy-ranging : ShyForm ranging
 shy-ranging = search tt depth 20
 
+-- one letter's forms, and the other letters'
+tried : {P Q : Type 0} → P → Q → (true ≡ true) × P × Q
+tried p q = (refl, p, q)
+
 shy-lettered : ShyForm lettered
-shy-lettered = (
-  refl,
-  shy-percentage,
-  (
-    refl,
-    shy-percentage,
-    (
-      refl,
-      (search tt depth 20, shy-browser),
-      (
-        refl,
-        (search tt depth 20, shy-browser),
-        (
-          refl,
-          (search tt depth 20, shy-browser),
-          (
-            refl,
-            (search tt depth 20, shy-browser),
-            (
-              refl,
-              search tt depth 20,
-              (
-                refl,
-                (search tt depth 20, shy-browser),
-                (
-                  refl,
-                  (search tt depth 20, shy-browser),
-                  (
-                    refl,
-                    (search tt depth 20, shy-browser),
-                    (
-                      refl,
-                      (search tt depth 20, shy-browser),
-                      (
-                        refl,
-                        (search tt depth 20, shy-browser),
-                        (
-                          refl,
-                          (search tt depth 20, shy-browser),
-                          (
-                            refl,
-                            (search tt depth 20, shy-browser),
-                            (refl, shy-browser, tt),
-                          ),
-                        ),
-                      ),
-                    ),
-                  ),
-                ),
-              ),
-            ),
-          ),
-        ),
-      ),
-    ),
-  ),
-)
+shy-lettered =
+    tried shy-percentage
+    (tried shy-percentage
+    (tried (search tt depth 20, shy-browser)
+    (tried (search tt depth 20, shy-browser)
+    (tried (search tt depth 20, shy-browser)
+    (tried (search tt depth 20, shy-browser)
+    (tried (search tt depth 20)
+    (tried (search tt depth 20, shy-browser)
+    (tried (search tt depth 20, shy-browser)
+    (tried (search tt depth 20, shy-browser)
+    (tried (search tt depth 20, shy-browser)
+    (tried (search tt depth 20, shy-browser)
+    (tried (search tt depth 20, shy-browser)
+    (tried (search tt depth 20, shy-browser)
+    (tried shy-browser tt))))))))))))))
 
 shy-unknown : ShyForm unknown
 shy-unknown = search tt depth 20
@@ -106,50 +68,30 @@ tame-query = shy-tame querying shy-query
 pub tame-separator : TameForm separating
 tame-separator = search tt depth 20
 
+chosen : {O P Q : Type 0} → P → Q → (O ⊎ P) × Q
+chosen p q = (inr p, q)
+
+solid-comparing : SolidForm comparing
+solid-comparing = (inl refl, (inl refl, tt))
+
+-- a form begins with a word, the percentage with a comparator, and a browser with its name
 solid-lettered : SolidForm lettered
-solid-lettered = (
-  inr (inl (inl refl, (inl refl, tt))),
-  (
-    inr (inl (inl refl, (inl refl, tt))),
-    (
-      inr (((inl refl, tt), (inl refl, tt)), inl refl),
-      (
-        inr ((inl refl, tt), inl refl),
-        (
-          inr (((inl refl, tt), (inl refl, tt)), inl refl),
-          (
-            inr (((inl refl, tt), (inl refl, tt)), inl refl),
-            (
-              inr (inl refl, inl refl),
-              (
-                inr ((inl refl, tt), inl refl),
-                (
-                  inr (((inl refl, tt), (inl refl, tt)), inl refl),
-                  (
-                    inr ((inl refl, tt), inl refl),
-                    (
-                      inr ((inl refl, tt), inl refl),
-                      (
-                        inr (((inl refl, tt), (inl refl, tt)), inl refl),
-                        (
-                          inr ((inl refl, tt), inl refl),
-                          (
-                            inr (((inl refl, tt), (inl refl, tt)), inl refl),
-                            (inr (inl refl), tt),
-                          ),
-                        ),
-                      ),
-                    ),
-                  ),
-                ),
-              ),
-            ),
-          ),
-        ),
-      ),
-    ),
-  ),
-)
+solid-lettered =
+    chosen (inl solid-comparing)
+    (chosen (inl solid-comparing)
+    (chosen (((inl refl, tt), (inl refl, tt)), inl refl)
+    (chosen ((inl refl, tt), inl refl)
+    (chosen (((inl refl, tt), (inl refl, tt)), inl refl)
+    (chosen (((inl refl, tt), (inl refl, tt)), inl refl)
+    (chosen (inl refl, inl refl)
+    (chosen ((inl refl, tt), inl refl)
+    (chosen (((inl refl, tt), (inl refl, tt)), inl refl)
+    (chosen ((inl refl, tt), inl refl)
+    (chosen ((inl refl, tt), inl refl)
+    (chosen (((inl refl, tt), (inl refl, tt)), inl refl)
+    (chosen ((inl refl, tt), inl refl)
+    (chosen (((inl refl, tt), (inl refl, tt)), inl refl)
+    (chosen (inl refl) tt))))))))))))))
 
 pub solid-query : SolidForm querying
 solid-query = inr (λ negated. inl (inl refl, (solid-lettered, inl refl)))

@@ -4,16 +4,15 @@ use mathlib.Core.Bool.{Bool, true, false}
 use mathlib.Core.Logic.{⊎-elim}
 use mathlib.Core.List.{List, [], _∷_, _++_}
 use Prim.Native.Nat.{ℕ, _+_, _-_, _≤_, _<_}
-use native.Mathlib.Nat.{add-zero}
 use native.Mathlib.Omega.{arith}
-use lib.ListN.{length, take, drop, getD, length-append, length-drop}
+use lib.ListN.{length, take, drop, length-append}
 use lib.Seq.{take-add}
 use Rattle.std.specs.declared.option.Option.{Option}
 use Rattle.std.specs.declared.option.Option.the-variants.{Some, None}
 use Rattle.std.proofs.shelf.Tests.{cases-lt}
 use Rattle.std.proofs.shelf.Lists.{drop-drop, drop-at, take-all}
 use Rattle.grammar.specs.Form.{Outcome, between}
-use Rattle.grammar.specs.Readings.{Grammar, Turn, Between, Turns, Reading, spelling, carried, Sound, moved-turn, moved-turns, behind-comma, Single, Spells, Joinable, Joins}
+use Rattle.grammar.specs.Readings.{Grammar, Turn, Between, Turns, Reading, spelling, carried, Sound, moved-turns, behind-comma, Single, Spells, Joinable, Joins}
 use Rattle.grammar.proofs.Meaning.{same-answer}
 use Rattle.grammar.proofs.Blind.{between-same}
 
