@@ -18,23 +18,28 @@ use Rattle.grammar.specs.Form.{Kind, part, flag, number, year, option, date, c
 use Rattle.grammar.specs.Forms.{querying, separating}
 use Rattle.grammar.specs.Readings.{Grammar, Sound, Single, Spells, Joins, carried}
 
+-- a part, so many codes further on
 abbrev pub span-along : ℕ → Span → Span
 span-along n s = record { start = n + s .start; end = n + s .end }
 
+-- a name, if there
 abbrev pub name-along : ℕ → Option Span → Option Span
 name-along n None = None
 name-along n (Some s) = Some (span-along n s)
 
+-- the versions of a range
 abbrev pub range-along : ℕ → VersionRange → VersionRange
 range-along n (Bounded v w) = Bounded (span-along n v) (span-along n w)
 range-along n (Unbounded c v) = Unbounded c (span-along n v)
 range-along n (Accurate v) = Accurate (span-along n v)
 range-along n Preview = Preview
 
+-- the region of a tail
 abbrev pub stats-along : ℕ → Stats → Stats
 stats-along n Global = Global
 stats-along n (Region r) = Region (span-along n r)
 
+-- the parts of a query
 abbrev pub atom-along : ℕ → QueryAtom → QueryAtom
 atom-along n (Last count major name) = Last count major (name-along n name)
 atom-along n (Unreleased name) = Unreleased (name-along n name)
@@ -86,6 +91,7 @@ pub data Moves (n : ℕ) : (k : Kind) → Form k → Form k → Type 0 where
 abbrev pub Form-shift : Type 0
 Form-shift = (n : ℕ) (k : Kind) (x y : Form k) → Moves n k x y → (t : List ℕ) (p : ℕ) → reads y t (n + p) ≡ carried (along k n) n (reads x (drop n t) p)
 
+-- the query says the same so many codes further on
 abbrev pub Query-moves : Type 0
 Query-moves = (n : ℕ) → Moves n query querying querying
 
