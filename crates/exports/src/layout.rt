@@ -65,7 +65,11 @@ fn with_name(form: u64, name: Option<Span>) -> Fields
     ensures { λ r. ⌜ r ≡ nameFields form name ⌝ }
 {
     match name {
-        Some(name) => Fields { kind: 1, name, ..blank_fields(form) },
+        Some(name) => Fields {
+            kind: 1,
+            name,
+            ..blank_fields(form)
+        },
         None => blank_fields(form),
     }
 }
@@ -74,8 +78,16 @@ fn with_stats(form: u64, amount: Span, stats: Stats) -> Fields
     ensures { λ r. ⌜ r ≡ statsFields form amount stats ⌝ }
 {
     match stats {
-        Stats::Global => Fields { amount, ..blank_fields(form) },
-        Stats::Region(region) => Fields { kind: 1, amount, region, ..blank_fields(form) },
+        Stats::Global => Fields {
+            amount,
+            ..blank_fields(form)
+        },
+        Stats::Region(region) => Fields {
+            kind: 1,
+            amount,
+            region,
+            ..blank_fields(form)
+        },
     }
 }
 
@@ -83,12 +95,33 @@ fn with_range(form: u64, name: Span, range: VersionRange) -> Fields
     ensures { λ r. ⌜ r ≡ rangeFields form name range ⌝ }
 {
     match range {
-        VersionRange::Bounded(version, upper) => Fields { kind: 1, name, version, upper, ..blank_fields(form) },
+        VersionRange::Bounded(version, upper) => Fields {
+            kind: 1,
+            name,
+            version,
+            upper,
+            ..blank_fields(form)
+        },
         VersionRange::Unbounded(comparator, version) => {
-            Fields { kind: 2, comparator: comparator_number(comparator), name, version, ..blank_fields(form) }
+            Fields {
+                kind: 2,
+                comparator: comparator_number(comparator),
+                name,
+                version,
+                ..blank_fields(form)
+            }
         }
-        VersionRange::Accurate(version) => Fields { kind: 3, name, version, ..blank_fields(form) },
-        VersionRange::Preview => Fields { kind: 4, name, ..blank_fields(form) },
+        VersionRange::Accurate(version) => Fields {
+            kind: 3,
+            name,
+            version,
+            ..blank_fields(form)
+        },
+        VersionRange::Preview => Fields {
+            kind: 4,
+            name,
+            ..blank_fields(form)
+        },
     }
 }
 
@@ -96,14 +129,40 @@ fn of_baseline(kind: BaselineKind) -> Fields
     ensures { λ r. ⌜ r ≡ baselineFields kind ⌝ }
 {
     match kind {
-        BaselineKind::Year(year) => Fields { kind: 1, number: u64::from(year), ..blank_fields(11) },
-        BaselineKind::LegacyYear(year) => Fields { kind: 2, number: u64::from(year), ..blank_fields(11) },
-        BaselineKind::InvalidYear => Fields { kind: 3, ..blank_fields(11) },
-        BaselineKind::NewlyAvailable => Fields { kind: 4, ..blank_fields(11) },
-        BaselineKind::NewlyAvailableOnDate => Fields { kind: 5, ..blank_fields(11) },
-        BaselineKind::WidelyAvailable => Fields { kind: 6, ..blank_fields(11) },
+        BaselineKind::Year(year) => Fields {
+            kind: 1,
+            number: u64::from(year),
+            ..blank_fields(11)
+        },
+        BaselineKind::LegacyYear(year) => Fields {
+            kind: 2,
+            number: u64::from(year),
+            ..blank_fields(11)
+        },
+        BaselineKind::InvalidYear => Fields {
+            kind: 3,
+            ..blank_fields(11)
+        },
+        BaselineKind::NewlyAvailable => Fields {
+            kind: 4,
+            ..blank_fields(11)
+        },
+        BaselineKind::NewlyAvailableOnDate => Fields {
+            kind: 5,
+            ..blank_fields(11)
+        },
+        BaselineKind::WidelyAvailable => Fields {
+            kind: 6,
+            ..blank_fields(11)
+        },
         BaselineKind::WidelyAvailableOnDate { year, month, day } => {
-            Fields { kind: 7, number: year.cast_unsigned(), month: u64::from(month), day: u64::from(day), ..blank_fields(11) }
+            Fields {
+                kind: 7,
+                number: year.cast_unsigned(),
+                month: u64::from(month),
+                day: u64::from(day),
+                ..blank_fields(11)
+            }
         }
     }
 }

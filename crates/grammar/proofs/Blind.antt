@@ -3,7 +3,7 @@ use mathlib.Core.Path.{_≡_, refl, sym, ap, subst, _∙_}
 use mathlib.Core.Bool.{Bool, true, false, cond, _&&_}
 use mathlib.Core.Logic.{⊎-elim}
 use mathlib.Core.List.{List, [], _∷_, _++_}
-use Prim.Native.Nat.{ℕ, zero, suc, _+_, _-_, _≤_, _<_}
+use Prim.Native.Nat.{ℕ, _+_, _-_, _≤_, _<_}
 use native.Mathlib.Nat.{add-zero}
 use native.Mathlib.Omega.{arith}
 use lib.ListN.{length, take, drop, getD, length-append, length-drop}
@@ -13,8 +13,8 @@ use Rattle.std.specs.declared.option.Option.the-variants.{Some, None}
 use Rattle.std.proofs.shelf.Tests.{cases-lt, both-ways, and-parts}
 use Rattle.std.proofs.shelf.Lists.{getD-past, getD-append-left, getD-append-add, drop-append-le, take-append-le, drop-more}
 use Rattle.grammar.specs.Rule.{Rule, nothing, one, look, run, then, else, unless, next, orElse, without, ends}
-use Rattle.grammar.specs.Form.{Kind, Value, Form, give, fail, spot, read, bind, when, first, between, Outcome, spotted, valued, onward, decided, firstOf, reads}
-use Rattle.grammar.specs.Tests.{tame, Edge, stays, goes, misses, depends, is-stays, is-misses, run-edge, then-edge, else-edge, unless-edge, edge, agreed, settled, steady, shy, Each, TameForm, ShyForm}
+use Rattle.grammar.specs.Form.{Kind, Form, give, fail, spot, read, bind, when, first, between, Outcome, spotted, valued, onward, decided, firstOf, reads}
+use Rattle.grammar.specs.Tests.{tame, Edge, stays, goes, misses, depends, is-misses, run-edge, then-edge, else-edge, unless-edge, edge, agreed, settled, steady, shy, Each, TameForm, ShyForm}
 use Rattle.grammar.proofs.Meaning.{run-end, run-past, run-stop, run-on, ends-stands, reads-says}
 use Rattle.grammar.proofs.Within.{stands-within, says-within}
 
@@ -160,7 +160,7 @@ module _ (a b : List ℕ) where
   pub rule-blind : (r : Rule) → tame r ≡ true → shy r ≡ true → (p : ℕ) → p ≤ length a → ends r (a ++ 44 ∷ b) p ≡ ends r a p
   rule-blind r m s p l = let w = and-parts (steady r) (settled r) s in to-seam r (w .1) (before r m (w .0)) p l
 
-  between-same : (p e : ℕ) → p ≤ e → e ≤ length a → between (a ++ 44 ∷ b) p e ≡ between a p e
+  pub between-same : (p e : ℕ) → p ≤ e → e ≤ length a → between (a ++ 44 ∷ b) p e ≡ between a p e
   between-same p e h k =
       ap (take (e - p)) (drop-append-le p a (44 ∷ b) (omega arith)) ∙ take-append-le (e - p) (drop p a) (44 ∷ b) (omega (arith, length-drop p a))
 

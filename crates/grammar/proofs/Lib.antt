@@ -1,6 +1,9 @@
+pub mod Along
 pub mod Blind
 pub mod Choice
 pub mod Meaning
+pub mod Moved
 pub mod Queries
+pub mod Readings
 pub mod Shift
 pub mod Within

@@ -1,9 +1,8 @@
 -- The computations say what the relations say, both ways; so each rule and each form has one answer.
 use mathlib.Core.Path.{_≡_, refl, sym, ap, subst, _∙_}
 use mathlib.Core.Bool.{Bool, true, false, cond}
-use mathlib.Core.Logic.{⊎-elim}
 use mathlib.Core.List.{List, [], _∷_}
-use Prim.Native.Nat.{ℕ, zero, suc, _+_, _≤_, _<_}
+use Prim.Native.Nat.{ℕ, suc, _+_, _≤_, _<_}
 use native.Mathlib.Nat.{add-zero}
 use native.Mathlib.Omega.{arith}
 use lib.ListN.{length, drop, getD, length-drop}
@@ -200,7 +199,7 @@ reads-silent t k f p h = subst (Spoken t k f p) h (spoken t k f p)
 pub one-end : (t : List ℕ) (r : Rule) (p e f : ℕ) → Stands t r p e → Stands t r p f → e ≡ f
 one-end t r p e f a b = let x = stands-ends a in let y = stands-ends b in cc
 
-same-answer : {A : Type 0} (o : Outcome A) (v w : A) (e f : ℕ) → o ≡ Some (v, e) → o ≡ Some (w, f) → (v ≡ w) × (e ≡ f)
+pub same-answer : {A : Type 0} (o : Outcome A) (v w : A) (e f : ℕ) → o ≡ Some (v, e) → o ≡ Some (w, f) → (v ≡ w) × (e ≡ f)
 same-answer {A} o v w e f p q = let h : _≡_ {A = A × ℕ} (v, e) (w, f) = cc in (ap (λ x. x .0) h, ap (λ x. x .1) h)
 
 pub one-answer : (t : List ℕ) (k : Kind) (x : Form k) (p : ℕ) (v w : Value k) (e f : ℕ) → Says t k x p v e → Says t k x p w f → (v ≡ w) × (e ≡ f)

@@ -1,17 +1,17 @@
 -- Where answers end: within the text, and past their start.
-use mathlib.Core.Path.{_≡_, refl, sym, ap, subst, _∙_}
-use mathlib.Core.Bool.{Bool, true, false, _&&_, _||_, not}
-use mathlib.Core.Logic.{⊎-elim, inl, inr}
-use mathlib.Core.List.{List, [], _∷_}
-use Prim.Native.Nat.{ℕ, zero, suc, _+_, _≤_, _<_}
+use mathlib.Core.Path.{_≡_, refl, sym, ap, _∙_}
+use mathlib.Core.Bool.{Bool, true, false, not}
+use mathlib.Core.Logic.{⊎-elim}
+use mathlib.Core.List.{List}
+use Prim.Native.Nat.{ℕ, _≤_, _<_}
 use native.Mathlib.Omega.{arith}
-use lib.ListN.{length, drop, getD}
+use lib.ListN.{length, getD}
 use Rattle.std.proofs.shelf.Tests.{cases-lt, both-ways, and-parts, or-cases, not-true}
 use Rattle.std.proofs.shelf.Lists.{getD-past}
-use Rattle.grammar.specs.Rule.{Rule, nothing, one, look, run, then, else, unless, ends}
-use Rattle.grammar.specs.Form.{Kind, part, Value, Form, give, fail, spot, read, bind, when, first, reads}
+use Rattle.grammar.specs.Rule.{Rule}
+use Rattle.grammar.specs.Form.{Kind, Value, Form}
 use Rattle.grammar.specs.Stands.{Stands, stands-nothing, stands-one, stands-look, stands-run, stands-then, stands-first, stands-second, stands-unless, Longest, longest-end, longest-stop, longest-on, Says, says-give, says-spot, says-read, says-bind, says-when, says-otherwise, says-first, says-second}
-use Rattle.grammar.specs.Tests.{tame, solid, Each, TameForm, SolidForm}
+use Rattle.grammar.specs.Tests.{tame, solid, TameForm, SolidForm}
 
 -- a code of a class that lacks 256 stands in the text
 pub inside : (f : ℕ → Bool) (t : List ℕ) (p : ℕ) → not (f 256) ≡ true → f (getD t p 256) ≡ true → p < length t

@@ -5,7 +5,6 @@ use mathlib.Core.List.{List}
 use Prim.Native.Nat.{ℕ}
 use lib.Chars.{codes}
 use lib.IntN.{pos}
-use Rattle.std.specs.declared.option.Option.{Option}
 use Rattle.std.specs.declared.option.Option.the-variants.{Some, None}
 use Rattle.grammar.specs.declared.query.Span.{Span}
 use Rattle.grammar.specs.declared.query.Comparator.the-variants.{Greater}
@@ -13,7 +12,7 @@ use Rattle.grammar.specs.declared.query.VersionRange.the-variants.{Accurate}
 use Rattle.grammar.specs.declared.query.Stats.the-variants.{Global}
 use Rattle.grammar.specs.declared.query.QueryAtom.{QueryAtom}
 use Rattle.grammar.specs.declared.query.QueryAtom.the-variants.{Last, Since, Percentage, Browser, Phantom, Dead, Unknown}
-use Rattle.grammar.specs.Form.{query, flag, Value, Outcome, reads}
+use Rattle.grammar.specs.Form.{reads}
 use Rattle.grammar.specs.Forms.{querying, separating, missed, unseparated}
 
 -- from a place up to another

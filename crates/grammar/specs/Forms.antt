@@ -111,10 +111,6 @@ current-node = skip (word (codes "current")) (skip blanks (skip (word (codes "no
 abbrev pub maintained-node : Form atom
 maintained-node = skip (word (codes "maintained")) (skip blanks (skip (word (codes "node")) (skip blanks (skip (word (codes "versions")) (give MaintainedNode)))))
 
--- `electron`, directly a range
-abbrev pub electron : Form atom
-electron = skip (word (codes "electron")) (bind ranging (λ r. give (Electron r)))
-
 -- `node`, directly a range
 abbrev pub node : Form atom
 node = skip (word (codes "node")) (bind ranging (λ r. give (Node r)))

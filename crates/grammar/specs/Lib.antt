@@ -1,3 +1,4 @@
+pub mod Along
 pub mod Classes
 pub mod Compare
 pub mod Decimal
@@ -7,6 +8,7 @@ pub mod Forms
 pub mod Gives
 pub mod Laws
 pub mod Queries
+pub mod Readings
 pub mod Rule
 pub mod Stands
 pub mod Tests

@@ -7,10 +7,11 @@ use lib.ListN.{length, getD}
 use Rattle.grammar.specs.Rule.{Rule, nothing, one, look, run, then, else, unless}
 use Rattle.grammar.specs.Form.{Kind, part, Value, Form, give, fail, spot, read, bind, when, first, between}
 
--- the code at a place is of a class, or is not
+-- the code at a place is of a class
 abbrev pub Has : List ℕ → (ℕ → Bool) → ℕ → Type 0
 Has t f p = f (getD t p 256) ≡ true
 
+-- the code at a place is not of a class
 abbrev pub Lacks : List ℕ → (ℕ → Bool) → ℕ → Type 0
 Lacks t f p = f (getD t p 256) ≡ false
 

@@ -26,50 +26,60 @@ solid (then r q) = solid r || solid q
 solid (else r q) = solid r && solid q
 solid (unless r q) = solid q
 
--- What a rule does at a code, whatever follows: it stands and takes nothing, it stands, it is missing, or that depends.
+-- what a rule does where the code is known and nothing else
 pub data Edge : Type 0 where
+  -- it stands, and takes nothing
   stays : Edge
+  -- it stands, and may take something
   goes : Edge
+  -- it is missing
   misses : Edge
+  -- that depends on what follows
   depends : Edge
 
+-- whether it stands and takes nothing
 abbrev pub is-stays : Edge → Bool
 is-stays stays = true
 is-stays goes = false
 is-stays misses = false
 is-stays depends = false
 
+-- whether it is missing
 abbrev pub is-misses : Edge → Bool
 is-misses stays = false
 is-misses goes = false
 is-misses misses = true
 is-misses depends = false
 
--- a run of it, one behind another, the first of two, and one that another bars
+-- a run is empty where its rule is missing
 abbrev pub run-edge : Edge → Edge
 run-edge stays = depends
 run-edge goes = depends
 run-edge misses = stays
 run-edge depends = depends
 
+-- the second goes on where the first takes nothing
 abbrev pub then-edge : Edge → Edge → Edge
 then-edge stays y = y
 then-edge goes y = depends
 then-edge misses y = misses
 then-edge depends y = depends
 
+-- the second comes where the first is missing
 abbrev pub else-edge : Edge → Edge → Edge
 else-edge stays y = stays
 else-edge goes y = goes
 else-edge misses y = y
 else-edge depends y = depends
 
+-- the first, where it stands, bars the second
 abbrev pub unless-edge : Edge → Edge → Edge
 unless-edge stays y = misses
 unless-edge goes y = misses
 unless-edge misses y = y
 unless-edge depends y = depends
 
+-- what a rule does at a code
 abbrev pub edge : ℕ → Rule → Edge
 edge c nothing = stays
 edge c (one f) = cond (f c) goes misses
@@ -79,6 +89,7 @@ edge c (then r q) = then-edge (edge c r) (edge c q)
 edge c (else r q) = else-edge (edge c r) (edge c q)
 edge c (unless r q) = unless-edge (edge c r) (edge c q)
 
+-- both stand and take nothing, or both are missing
 abbrev pub agreed : Edge → Edge → Bool
 agreed stays y = is-stays y
 agreed goes y = false
@@ -113,9 +124,11 @@ Each ok (bind {j = j} f g) = Each ok f × ((v : Value j) → Each ok (g v))
 Each ok (when r f g) = (ok r ≡ true) × Each ok f × Each ok g
 Each ok (first f g) = Each ok f × Each ok g
 
+-- the form takes nothing past the end
 abbrev pub TameForm : {k : Kind} → Form k → Type 0
 TameForm f = Each tame f
 
+-- to the form a comma is as good as the end
 abbrev pub ShyForm : {k : Kind} → Form k → Type 0
 ShyForm f = Each (λ r. tame r && shy r) f
 
