@@ -76,3 +76,46 @@ abbrev pub supportNumber : Option SupportKind → ℕ
 supportNumber None = 0
 supportNumber (Some Fully) = 1
 supportNumber (Some Partially) = 2
+
+-- the same with other numbers and flags
+abbrev pub flagged : Fields → ℕ → Bool → Bool → Fields
+flagged f n a b = record { form = f .form; kind = f .kind; comparator = f .comparator; number = n; month = f .month; day = f .day; «first_flag» = bit a; «second_flag» = bit b; name = f .name; amount = f .amount; version = f .version; upper = f .upper; region = f .region }
+
+-- the same with a comparator
+abbrev pub compared : ℕ → Fields → Fields
+compared c f = record { form = f .form; kind = f .kind; comparator = c; number = f .number; month = f .month; day = f .day; «first_flag» = f .«first_flag»; «second_flag» = f .«second_flag»; name = f .name; amount = f .amount; version = f .version; upper = f .upper; region = f .region }
+
+-- a form with this kind and name
+abbrev pub kindFields : ℕ → ℕ → Span → Fields
+kindFields form kind n = record { form = form; kind = kind; comparator = 0; number = 0; month = 0; day = 0; «first_flag» = 0; «second_flag» = 0; name = n; amount = nowhere; version = nowhere; upper = nowhere; region = nowhere }
+
+-- what an atom says, each part in a place of its own
+abbrev pub fieldsOf : QueryAtom → Fields
+fieldsOf (Last c m n) = flagged (nameFields 1 n) c m false
+fieldsOf (Unreleased n) = nameFields 2 n
+fieldsOf (Years n) = statsFields 3 n Global
+fieldsOf (Since y m d) = record { form = 4; kind = 0; comparator = 0; number = ofZ w32 y; month = m; day = d; «first_flag» = 0; «second_flag» = 0; name = nowhere; amount = nowhere; version = nowhere; upper = nowhere; region = nowhere }
+fieldsOf (Percentage c n s) = compared (comparatorNumber c) (statsFields 5 n s)
+fieldsOf (Cover n s) = statsFields 6 n s
+fieldsOf (Supports f k) = kindFields 7 (supportNumber k) f
+fieldsOf (Electron r) = rangeFields 8 nowhere r
+fieldsOf (Node r) = rangeFields 9 nowhere r
+fieldsOf (Browser n r) = rangeFields 10 n r
+fieldsOf (Baseline k d o) = flagged (baselineFields k) (baselineFields k .number) d o
+fieldsOf FirefoxESR = plainFields 12
+fieldsOf OperaMini = plainFields 13
+fieldsOf CurrentNode = plainFields 14
+fieldsOf MaintainedNode = plainFields 15
+fieldsOf (Phantom b) = kindFields 16 (bit b) nowhere
+fieldsOf Defaults = plainFields 17
+fieldsOf Dead = plainFields 18
+fieldsOf (Unknown u) = kindFields 19 0 u
+
+-- the 24 words of a query: its raw, its flags, and the fields in order
+abbrev pub wordsOf : SingleQuery → List ℕ
+wordsOf q =
+    let f = fieldsOf (q .atom) in
+    q .raw .start ∷ q .raw .end ∷ bit (q .negated) ∷ bit (q .«is_and»)
+    ∷ f .form ∷ f .kind ∷ f .comparator ∷ f .number ∷ f .month ∷ f .day ∷ f .«first_flag» ∷ f .«second_flag»
+    ∷ f .name .start ∷ f .name .end ∷ f .amount .start ∷ f .amount .end
+    ∷ f .version .start ∷ f .version .end ∷ f .upper .start ∷ f .upper .end ∷ f .region .start ∷ f .region .end ∷ 0 ∷ 0 ∷ []

@@ -1,6 +1,6 @@
 // A query as 24 numbers.
 ghost use mathlib.Core.Path.{_≡_};
-ghost use Rattle.exports.specs.Layout.{plainFields, rangeFields, baselineFields, statsFields, comparatorNumber, nameFields, supportNumber};
+ghost use Rattle.exports.specs.Layout.{plainFields, rangeFields, baselineFields, statsFields, comparatorNumber, nameFields, supportNumber, fieldsOf, wordsOf};
 use grammar::query::BaselineKind;
 use grammar::query::Comparator;
 use grammar::query::QueryAtom;
@@ -175,4 +175,106 @@ fn support_number(kind: Option<SupportKind>) -> u64
         Some(SupportKind::Fully) => 1,
         Some(SupportKind::Partially) => 2,
     }
+}
+
+fn fields_of(atom: QueryAtom) -> Fields
+    ensures { λ r. ⌜ r ≡ fieldsOf atom ⌝ }
+{
+    match atom {
+        QueryAtom::Last { count, major, name } => {
+            Fields {
+                number: u64::from(count),
+                first_flag: u64::from(major),
+                ..with_name(1, name)
+            }
+        }
+        QueryAtom::Unreleased(name) => with_name(2, name),
+        QueryAtom::Years(amount) => Fields {
+            amount,
+            ..blank_fields(3)
+        },
+        QueryAtom::Since { year, month, day } => Fields {
+            number: u64::from(year.cast_unsigned()),
+            month: u64::from(month),
+            day: u64::from(day),
+            ..blank_fields(4)
+        },
+        QueryAtom::Percentage {
+            comparator,
+            popularity,
+            stats,
+        } => {
+            Fields {
+                comparator: comparator_number(comparator),
+                ..with_stats(5, popularity, stats)
+            }
+        }
+        QueryAtom::Cover { coverage, stats } => with_stats(6, coverage, stats),
+        QueryAtom::Supports(name, kind) => Fields {
+            kind: support_number(kind),
+            name,
+            ..blank_fields(7)
+        },
+        QueryAtom::Electron(range) => with_range(8, NOWHERE, range),
+        QueryAtom::Node(range) => with_range(9, NOWHERE, range),
+        QueryAtom::Browser(name, range) => with_range(10, name, range),
+        QueryAtom::Baseline {
+            kind,
+            downstream,
+            kaios,
+        } => {
+            Fields {
+                first_flag: u64::from(downstream),
+                second_flag: u64::from(kaios),
+                ..of_baseline(kind)
+            }
+        }
+        QueryAtom::FirefoxESR => blank_fields(12),
+        QueryAtom::OperaMini => blank_fields(13),
+        QueryAtom::CurrentNode => blank_fields(14),
+        QueryAtom::MaintainedNode => blank_fields(15),
+        QueryAtom::Phantom(second) => Fields {
+            kind: u64::from(second),
+            ..blank_fields(16)
+        },
+        QueryAtom::Defaults => blank_fields(17),
+        QueryAtom::Dead => blank_fields(18),
+        QueryAtom::Unknown(name) => Fields {
+            name,
+            ..blank_fields(19)
+        },
+    }
+}
+
+// The 24 words of a query.
+pub fn words_of(query: SingleQuery) -> [u64; 24]
+    ensures { λ r. ⌜ r ≡ wordsOf query ⌝ }
+{
+    let f = fields_of(query.atom);
+    [
+        query.raw.start as u64,
+        query.raw.end as u64,
+        u64::from(query.negated),
+        u64::from(query.is_and),
+        f.form,
+        f.kind,
+        f.comparator,
+        f.number,
+        f.month,
+        f.day,
+        f.first_flag,
+        f.second_flag,
+        f.name.start as u64,
+        f.name.end as u64,
+        f.amount.start as u64,
+        f.amount.end as u64,
+        f.version.start as u64,
+        f.version.end as u64,
+        f.upper.start as u64,
+        f.upper.end as u64,
+        f.region.start as u64,
+        f.region.end as u64,
+        0,
+        0,
+    ]
 }

@@ -1,2 +1,3 @@
 // Entry points for C and Rust, on numbers and slices.
 pub mod layout;
+pub mod read;
