@@ -7,6 +7,7 @@ pub mod Form
 pub mod Forms
 pub mod Gives
 pub mod Laws
+pub mod Names
 pub mod Queries
 pub mod Readings
 pub mod Rule

@@ -1,6 +1,8 @@
 // What a query says. Borrowed parts of the text are told by their two places.
 ghost use Rattle.std.specs.Orderings.{Tested};
+ghost use mathlib.Core.Path.{_≡_};
 ghost use Rattle.grammar.specs.Compare.{testOf};
+ghost use Rattle.grammar.specs.Names.{nameOf};
 
 // A part of the text: from its start up to its end.
 #[derive(Clone, Copy)]
@@ -60,6 +62,35 @@ pub enum QueryAtom {
     Defaults,
     Dead,
     Unknown(Span),
+}
+
+impl QueryAtom {
+    // The name of the form.
+    pub fn name(&self) -> &'static str
+        ensures { λ r. ⌜ now r ≡ nameOf (now (self .entry)) ⌝ }
+    {
+        match *self {
+            QueryAtom::Last { count: _, major: _, name: _ } => "Last",
+            QueryAtom::Unreleased(_) => "Unreleased",
+            QueryAtom::Years(_) => "Years",
+            QueryAtom::Since { year: _, month: _, day: _ } => "Since",
+            QueryAtom::Percentage { comparator: _, popularity: _, stats: _ } => "Percentage",
+            QueryAtom::Cover { coverage: _, stats: _ } => "Cover",
+            QueryAtom::Supports(_, _) => "Supports",
+            QueryAtom::Electron(_) => "Electron",
+            QueryAtom::Node(_) => "Node",
+            QueryAtom::Browser(_, _) => "Browser",
+            QueryAtom::Baseline { kind: _, downstream: _, kaios: _ } => "Baseline",
+            QueryAtom::FirefoxESR => "FirefoxESR",
+            QueryAtom::OperaMini => "OperaMini",
+            QueryAtom::CurrentNode => "CurrentNode",
+            QueryAtom::MaintainedNode => "MaintainedNode",
+            QueryAtom::Phantom(_) => "Phantom",
+            QueryAtom::Defaults => "Defaults",
+            QueryAtom::Dead => "Dead",
+            QueryAtom::Unknown(_) => "Unknown",
+        }
+    }
 }
 
 #[derive(Clone, Copy)]
