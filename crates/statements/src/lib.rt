@@ -1,0 +1,3 @@
+// Statements tried: what the reader answers to examples, field by field.
+#[cfg(test)]
+mod tests;
