@@ -70,17 +70,36 @@ impl QueryAtom {
         ensures { λ r. ⌜ now r ≡ nameOf (now (self .entry)) ⌝ }
     {
         match *self {
-            QueryAtom::Last { count: _, major: _, name: _ } => "Last",
+            QueryAtom::Last {
+                count: _,
+                major: _,
+                name: _,
+            } => "Last",
             QueryAtom::Unreleased(_) => "Unreleased",
             QueryAtom::Years(_) => "Years",
-            QueryAtom::Since { year: _, month: _, day: _ } => "Since",
-            QueryAtom::Percentage { comparator: _, popularity: _, stats: _ } => "Percentage",
-            QueryAtom::Cover { coverage: _, stats: _ } => "Cover",
+            QueryAtom::Since {
+                year: _,
+                month: _,
+                day: _,
+            } => "Since",
+            QueryAtom::Percentage {
+                comparator: _,
+                popularity: _,
+                stats: _,
+            } => "Percentage",
+            QueryAtom::Cover {
+                coverage: _,
+                stats: _,
+            } => "Cover",
             QueryAtom::Supports(_, _) => "Supports",
             QueryAtom::Electron(_) => "Electron",
             QueryAtom::Node(_) => "Node",
             QueryAtom::Browser(_, _) => "Browser",
-            QueryAtom::Baseline { kind: _, downstream: _, kaios: _ } => "Baseline",
+            QueryAtom::Baseline {
+                kind: _,
+                downstream: _,
+                kaios: _,
+            } => "Baseline",
             QueryAtom::FirefoxESR => "FirefoxESR",
             QueryAtom::OperaMini => "OperaMini",
             QueryAtom::CurrentNode => "CurrentNode",

@@ -79,9 +79,19 @@ fn print_statement(rt: &LibcRuntime, bytes: &[u8]) -> io::Result<()> {
     }
 }
 
-fn main(rt: LibcRuntime) -> io::Result<()> {
+fn run(rt: &LibcRuntime) -> io::Result<()> {
     let mut buf = [0; 16385];
     let mut input = rt.stdin();
     let n = fill(&mut input, &mut buf)?;
-    print_statement(&rt, &buf[0..n])
+    print_statement(rt, &buf[0..n])
+}
+
+fn main(rt: LibcRuntime) -> io::Result<()> {
+    match run(&rt) {
+        Ok(()) => Ok(()),
+        Err(error) => {
+            eprintln!(rt, "queries: input or output failed: {error}")?;
+            Err(error)
+        }
+    }
 }

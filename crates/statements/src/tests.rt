@@ -3,23 +3,41 @@ use std::test::*;
 
 // The forms by their numbers in a record.
 const LAST: u64 = 1;
+
 const UNRELEASED: u64 = 2;
+
 const YEARS: u64 = 3;
+
 const SINCE: u64 = 4;
+
 const PERCENTAGE: u64 = 5;
+
 const COVER: u64 = 6;
+
 const SUPPORTS: u64 = 7;
+
 const ELECTRON: u64 = 8;
+
 const NODE: u64 = 9;
+
 const BROWSER: u64 = 10;
+
 const BASELINE: u64 = 11;
+
 const FIREFOX_ESR: u64 = 12;
+
 const OPERA_MINI: u64 = 13;
+
 const CURRENT_NODE: u64 = 14;
+
 const MAINTAINED_NODE: u64 = 15;
+
 const PHANTOM: u64 = 16;
+
 const DEFAULTS: u64 = 17;
+
 const DEAD: u64 = 18;
+
 const UNKNOWN: u64 = 19;
 
 // What is expected of a query: raw start, raw end, negated, is_and, form.
@@ -65,7 +83,12 @@ fn word(text: &[u8], index: usize, expected: u64) -> Result<(), Fail> {
 
 #[test]
 fn worked_statements() -> Result<(), Fail> {
-    reads(b"dead and not chrome tp", &[[0, 4, 0, 0, DEAD], [9, 22, 1, 1, BROWSER]], 0, 0)?;
+    reads(
+        b"dead and not chrome tp",
+        &[[0, 4, 0, 0, DEAD], [9, 22, 1, 1, BROWSER]],
+        0,
+        0,
+    )?;
     reads(b"phantomjs 2.15", &[[0, 13, 0, 0, PHANTOM]], 3, 13)?;
     reads(b"chrome 5,", &[[0, 8, 0, 0, BROWSER]], 3, 9)?;
     reads(b"a,,b", &[[0, 1, 0, 0, UNKNOWN]], 3, 2)?;
@@ -76,8 +99,18 @@ fn worked_statements() -> Result<(), Fail> {
     whole(b"electron foo", UNKNOWN)?;
     reads(b"not 5", &[[0, 5, 1, 0, UNKNOWN]], 0, 0)?;
     whole(b"not", UNKNOWN)?;
-    reads(b"> 1% , dead", &[[0, 5, 0, 0, PERCENTAGE], [7, 11, 0, 0, DEAD]], 0, 0)?;
-    reads(b"a ,b", &[[0, 2, 0, 0, UNKNOWN], [3, 4, 0, 0, UNKNOWN]], 0, 0)
+    reads(
+        b"> 1% , dead",
+        &[[0, 5, 0, 0, PERCENTAGE], [7, 11, 0, 0, DEAD]],
+        0,
+        0,
+    )?;
+    reads(
+        b"a ,b",
+        &[[0, 2, 0, 0, UNKNOWN], [3, 4, 0, 0, UNKNOWN]],
+        0,
+        0,
+    )
 }
 
 #[test]
@@ -88,7 +121,12 @@ fn missed_places() -> Result<(), Fail> {
     reads(b"x, not ,y", &[[0, 1, 0, 0, UNKNOWN]], 3, 7)?;
     reads(b"dead and,x", &[[0, 4, 0, 0, DEAD]], 3, 8)?;
     reads(b"dead andx", &[[0, 4, 0, 0, DEAD]], 3, 5)?;
-    reads(b"chrome 5and dead", &[[0, 8, 0, 0, BROWSER], [12, 16, 0, 1, DEAD]], 0, 0)?;
+    reads(
+        b"chrome 5and dead",
+        &[[0, 8, 0, 0, BROWSER], [12, 16, 0, 1, DEAD]],
+        0,
+        0,
+    )?;
     whole(b"x and", UNKNOWN)?;
     reads(b" chrome 5,", &[[0, 8, 0, 0, BROWSER]], 3, 9)
 }
@@ -144,7 +182,10 @@ fn more_forms_of_the_readme() -> Result<(), Fail> {
     whole(b"supports es6-module", SUPPORTS)?;
     whole(b"partially supports css-grid", SUPPORTS)?;
     whole(b"baseline widely available", BASELINE)?;
-    whole(b"baseline widely available on 2024-06-01 with downstream", BASELINE)?;
+    whole(
+        b"baseline widely available on 2024-06-01 with downstream",
+        BASELINE,
+    )?;
     whole(b"baseline newly available including kaios", BASELINE)?;
     whole(b"baseline 2022 with downstream including kaios", BASELINE)?;
     whole(b"extends browserslist-config-mycompany", UNKNOWN)?;
