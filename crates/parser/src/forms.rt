@@ -11,6 +11,11 @@ ghost use Rattle.grammar.specs.Forms.{tail, percentage, cover, named, years, la
 ghost use Rattle.grammar.specs.Gives.{Gives, GivesValue};
 ghost use Rattle.grammar.specs.Rule.{ends, then, else};
 ghost use Rattle.grammar.specs.Tokens.{blanks, word, versions, reserved, exactly, name as naming};
+use grammar::query::QueryAtom;
+use grammar::query::Span;
+use grammar::query::Stats;
+use grammar::query::SupportKind;
+use grammar::query::VersionRange;
 use scanner::class::Class;
 use scanner::number::parse_u16;
 use scanner::range::parse_comparator;
@@ -27,11 +32,6 @@ use scanner::token::scan_number;
 use scanner::token::skip_whitespace;
 use scanner::token::skip_whitespace1;
 use scanner::trial::Trial;
-use grammar::query::QueryAtom;
-use grammar::query::Span;
-use grammar::query::Stats;
-use grammar::query::SupportKind;
-use grammar::query::VersionRange;
 use texts::text::Text;
 
 // Blanks and `in`.
@@ -79,7 +79,11 @@ pub fn parse_percentage<T: Text>(text: &T, place: &mut usize) -> Option<QueryAto
     }
     let stats = parse_stats(text, trial.place)?;
     trial.accepted = true;
-    Some(QueryAtom::Percentage { comparator, popularity, stats })
+    Some(QueryAtom::Percentage {
+        comparator,
+        popularity,
+        stats,
+    })
 }
 
 pub fn parse_cover<T: Text>(text: &T, place: &mut usize) -> Option<QueryAtom>
@@ -282,7 +286,11 @@ pub fn parse_unreleased<T: Text>(text: &T, place: &mut usize) -> Option<QueryAto
 }
 
 // `supports` and a feature.
-fn parse_supports<T: Text>(text: &T, place: &mut usize, kind: Option<SupportKind>) -> Option<QueryAtom>
+fn parse_supports<T: Text>(
+    text: &T,
+    place: &mut usize,
+    kind: Option<SupportKind>,
+) -> Option<QueryAtom>
     ensures { λ r. ⌜ GivesValue (reads (supporting kind) (codes (T·Text .cells (now (text .entry)))) (now (place .entry))) r (now (place .entry)) (now (place .exit)) ⌝ }
 {
     let mut trial = Trial::begin(place);
@@ -337,7 +345,9 @@ pub fn parse_partially_supports<T: Text>(text: &T, place: &mut usize) -> Option<
 fn match_firefox<T: Text>(text: &T, place: &mut usize) -> bool
     ensures { λ r. ⌜ Gives (ends (else (word (bytes "firefox")) (else (word (bytes "ff")) (word (bytes "fx")))) (codes (T·Text .cells (now (text .entry)))) (now (place .entry))) r (now (place .entry)) (now (place .exit)) ⌝ }
 {
-    match_keyword(text, place, b"firefox") || match_keyword(text, place, b"ff") || match_keyword(text, place, b"fx")
+    match_keyword(text, place, b"firefox")
+        || match_keyword(text, place, b"ff")
+        || match_keyword(text, place, b"fx")
 }
 
 pub fn parse_firefox_esr<T: Text>(text: &T, place: &mut usize) -> Option<QueryAtom>
@@ -446,13 +456,21 @@ pub fn parse_phantom_or_partially<T: Text>(text: &T, place: &mut usize) -> Optio
 fn parse_defaults<T: Text>(text: &T, place: &mut usize) -> Option<QueryAtom>
     ensures { λ r. ⌜ GivesValue (reads defaults (codes (T·Text .cells (now (text .entry)))) (now (place .entry))) r (now (place .entry)) (now (place .exit)) ⌝ }
 {
-    if match_keyword(text, place, b"defaults") { Some(QueryAtom::Defaults) } else { None }
+    if match_keyword(text, place, b"defaults") {
+        Some(QueryAtom::Defaults)
+    } else {
+        None
+    }
 }
 
 fn parse_dead<T: Text>(text: &T, place: &mut usize) -> Option<QueryAtom>
     ensures { λ r. ⌜ GivesValue (reads dead (codes (T·Text .cells (now (text .entry)))) (now (place .entry))) r (now (place .entry)) (now (place .exit)) ⌝ }
 {
-    if match_keyword(text, place, b"dead") { Some(QueryAtom::Dead) } else { None }
+    if match_keyword(text, place, b"dead") {
+        Some(QueryAtom::Dead)
+    } else {
+        None
+    }
 }
 
 pub fn parse_defaults_or_dead<T: Text>(text: &T, place: &mut usize) -> Option<QueryAtom>
@@ -498,7 +516,11 @@ fn parse_browser_range<T: Text>(text: &T, place: &mut usize) -> Option<VersionRa
     match parse_version_range(text, place) {
         Some(range) => Some(range),
         None => {
-            if match_preview(text, place) { Some(VersionRange::Preview) } else { None }
+            if match_preview(text, place) {
+                Some(VersionRange::Preview)
+            } else {
+                None
+            }
         }
     }
 }

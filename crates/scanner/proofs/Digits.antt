@@ -64,7 +64,7 @@ pub some-any : (t : List ℕ) (p : ℕ) → digit (getD t p 256) ≡ true → en
 some-any t p d =
     let l = digit-inside t p d in
     let e : (p + 1) + span (fits (look digit)) (drop (p + 1) t) ≡ p + span (fits (look digit)) (drop p t) =
-        omega (arith, span-more (fits (look digit)) t p l (looks digit t p ∙ d)) in
+    omega (arith, span-more (fits (look digit)) t p l (looks digit t p ∙ d)) in
     rw d (ap Some e)
 
 -- taking the remainder before or after a digit is added is the same, at any modulus
@@ -72,7 +72,7 @@ mod-digit : (M v d : ℕ) → ((v % M) * 10 + d) % M ≡ (v * 10 + d) % M
 mod-digit M v d =
     let q : M * (v / M) + v % M ≡ v = div-add-mod v M in
     let e : v * 10 + d ≡ ((v % M) * 10 + d) + M * ((v / M) * 10) =
-        let f : M * ((v / M) * 10) ≡ (M * (v / M)) * 10 = sym (mul-assoc M (v / M) 10) in omega arith in
+    let f : M * ((v / M) * 10) ≡ (M * (v / M)) * 10 = sym (mul-assoc M (v / M) 10) in omega arith in
     sym (ap (λ n. n % M) e ∙ add-mul-mod-self-left ((v % M) * 10 + d) M ((v / M) * 10))
 
 -- a digit more in wrapping arithmetic, at any modulus

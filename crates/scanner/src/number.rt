@@ -48,7 +48,8 @@ pub fn digits_u32<T: Text>(text: &T, place: &mut usize) -> u32
 {
     let mut n: u32 = 0;
     while peek(text, *place, Class::Digit) {
-        n = n.wrapping_mul(10).wrapping_add(u32::from(digit_at(text, *place)));
+        n = n.wrapping_mul(10)
+            .wrapping_add(u32::from(digit_at(text, *place)));
         *place += 1;
     }
     n

@@ -59,10 +59,18 @@ pub fn parse_comparator<T: Text>(text: &T, place: &mut usize) -> Option<Comparat
     ensures { λ r. ⌜ GivesValue (reads comparing (codes (T·Text .cells (now (text .entry)))) (now (place .entry))) r (now (place .entry)) (now (place .exit)) ⌝ }
 {
     if eat(text, place, b'<') {
-        return if eat(text, place, b'=') { Some(Comparator::LessOrEqual) } else { Some(Comparator::Less) };
+        return if eat(text, place, b'=') {
+            Some(Comparator::LessOrEqual)
+        } else {
+            Some(Comparator::Less)
+        };
     }
     if eat(text, place, b'>') {
-        return if eat(text, place, b'=') { Some(Comparator::GreaterOrEqual) } else { Some(Comparator::Greater) };
+        return if eat(text, place, b'=') {
+            Some(Comparator::GreaterOrEqual)
+        } else {
+            Some(Comparator::Greater)
+        };
     }
     None
 }

@@ -29,7 +29,11 @@ fn parse_year<T: Text>(text: &T, place: &mut usize, negative: bool) -> Option<i3
         return None;
     }
     let year = digits_u32(text, place).cast_signed();
-    if negative { Some(year.wrapping_neg()) } else { Some(year) }
+    if negative {
+        Some(year.wrapping_neg())
+    } else {
+        Some(year)
+    }
 }
 
 fn eat_plus<T: Text>(text: &T, place: &mut usize)

@@ -31,5 +31,5 @@ pub returns : need.returns
 returns g c =
     let t = codes (g .T·Text .cells (c .args .text .now)) in
     let e : c .args .place .now + span (fits inner) (drop (c .args .place .now) t) ≡ c .loop-place .place =
-        omega (arith, run-stop inner t (c .loop-place .place) (sym (c .loop-place-test .ensures tt)), c .loop-place .inv) in
+    omega (arith, run-stop inner t (c .loop-place .place) (sym (c .loop-place-test .ensures tt)), c .loop-place .inv) in
     ap Some e

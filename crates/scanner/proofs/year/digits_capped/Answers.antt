@@ -23,9 +23,10 @@ loop-n-again g c =
     let t = codes (g .T·Text .cells (c .args .text .now)) in
     let s = c .args .place .now in
     let p = c .loop-n .place in
-    let m = capped-step (value (between t s p)) (c .loop-n .n) (c .digit-at .result) (getD t p 256) (c .capped-more-n .result) (c .loop-n .inv .0 .sofar) (c .digit-at .ensures) (c .capped-more-n .ensures) in
-    (counted-more (λ v. min v 4294967296) t s p (c .loop-n .n) (c .capped-more-n .result) (sym (c .loop-n-test .ensures tt)) (c .loop-n .inv .0) m,
-    omega (arith, c .capped-more-n .ensures))
+    let m = capped-step (value (between t s p)) (c .loop-n .n) (c .digit-at .result) (getD t p 256) (c .capped-more-n .result) (c .loop-n .inv .0 .sofar) (c .digit-at .ensures) (c .capped-more-n .ensures) in (
+      counted-more (λ v. min v 4294967296) t s p (c .loop-n .n) (c .capped-more-n .result) (sym (c .loop-n-test .ensures tt)) (c .loop-n .inv .0) m,
+      omega (arith, c .capped-more-n .ensures),
+    )
 
 pub returns : need.returns
 returns g c =

@@ -1,0 +1,2 @@
+// Layers over texts: the cover, which hides comments and ends of lines, and the join of two texts.
+pub mod join;
