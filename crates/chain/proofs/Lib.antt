@@ -1,0 +1,3 @@
+pub mod Chaining
+pub mod Checks
+pub mod Faults
