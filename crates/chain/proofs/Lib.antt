@@ -1,3 +1,4 @@
 pub mod Chaining
 pub mod Checks
 pub mod Faults
+pub mod Pieces

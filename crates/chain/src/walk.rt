@@ -68,7 +68,8 @@ impl Walk {
     // How many bytes the pieces have.
     pub fn size(&self) -> usize
         requires { ⌜ now self .taken ≤ 256 ⌝ }
-        ensures { λ r. ⌜ r ≡ getD (now (self .entry) .starts) (now (self .entry) .taken) 0 ⌝ }
+        ensures value { λ r. ⌜ r ≡ getD (now (self .entry) .starts) (now (self .entry) .taken) 0 ⌝ }
+        ensures bound { λ r. ⌜ r < 2 ^ 16 ⌝ }
     {
         usize::from(self.starts[self.taken])
     }
@@ -77,6 +78,38 @@ impl Walk {
         ensures { λ r. ⌜ r ≡ now (self .entry) .damage ⌝ }
     {
         self.damage
+    }
+
+    // The piece in which a place lies, by halving.
+    fn piece_at(&self, place: usize) -> usize
+        requires { ⌜ now self .taken ≤ 256 ⌝ ∗ ⌜ getD (now self .starts) 0 0 ≤ place ⌝ ∗ ⌜ place < getD (now self .starts) (now self .taken) 0 ⌝ }
+        ensures within { λ r. ⌜ r < now (self .entry) .taken ⌝ }
+        ensures low { λ r. ⌜ getD (now (self .entry) .starts) r 0 ≤ place ⌝ }
+        ensures high { λ r. ⌜ place < getD (now (self .entry) .starts) (r + 1) 0 ⌝ }
+    {
+        let mut low = 0;
+        let mut high = self.taken;
+        while high - low > 1 {
+            let middle = low + (high - low) / 2;
+            if place < usize::from(self.starts[middle]) {
+                high = middle;
+            } else {
+                low = middle;
+            }
+        }
+        low
+    }
+
+    // The byte at a place of the text.
+    pub fn byte_at(&self, memory: &[u8], place: usize) -> u8
+        requires within { ⌜ now self .taken ≤ 256 ⌝ }
+        requires before { ⌜ place < getD (now self .starts) (now self .taken) 0 ⌝ }
+        requires places { ⌜ ((k : ℕ) → k ≤ now self .taken → length (gathered (now memory) (now self .froms) (now self .starts) k) ≡ getD (now self .starts) k 0) ⌝ }
+        ensures { λ r. ⌜ r ≡ getD (gathered (now (memory .entry)) (now (self .entry) .froms) (now (self .entry) .starts) (now (self .entry) .taken)) place 0 ⌝ }
+    {
+        let piece = self.piece_at(place);
+        let offset = place - usize::from(self.starts[piece]);
+        memory[usize::from(self.froms[piece]) + offset]
     }
 
     // One more piece, of `used` bytes.

@@ -9,7 +9,7 @@ use Rattle.chain.proofs.walk.walk_along.Needs as need
 
 pub returns-in-Some : need.returns-in-Some
 returns-in-Some c =
-    walked-broken (c .args .memory .now) (c .args .first) (c .loop-index .walk .froms) (c .loop-index .walk .starts) (c .loop-index .walk .taken) (c .loop-index .index) (c .from-number .result - 1) (omega arith) (c .loop-index .inv .2) (c .loop-index .inv .3) (c .loop-index .inv .0) (c .in-Some .damage) (c .fault-of .result) (c .size .result) (c .in-Some .ensures tt ∙ ap (λ n. damageAt (c .args .memory .now) (n - c .loop-index .walk .taken) (c .from-number .result - 1)) (c .record-count-records .ensures)) (c .size .ensures) (c .fault-of .ensures)
+    walked-broken (c .args .memory .now) (c .args .first) (c .loop-index .walk .froms) (c .loop-index .walk .starts) (c .loop-index .walk .taken) (c .loop-index .index) (c .from-number .result - 1) (omega arith) (c .loop-index .inv .2) (c .loop-index .inv .3) (c .loop-index .inv .0) (c .in-Some .damage) (c .fault-of .result) (c .size .result) (c .in-Some .ensures tt ∙ ap (λ n. damageAt (c .args .memory .now) (n - c .loop-index .walk .taken) (c .from-number .result - 1)) (c .record-count-records .ensures)) (c .size .ensures .value) (c .fault-of .ensures)
 
 pub loop-index-again : need.loop-index-again
 loop-index-again c =
