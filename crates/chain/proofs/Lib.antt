@@ -1,4 +1,5 @@
 pub mod Chaining
 pub mod Checks
+pub mod Damaged
 pub mod Faults
 pub mod Pieces

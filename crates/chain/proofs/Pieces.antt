@@ -54,12 +54,12 @@ module _ (memory froms starts : List ℕ) where
         let before : p < length (gathered memory froms starts (suc r)) = omega (arith, places (suc r) (omega arith), next) in
         sym (front (suc r) t p (omega arith) before ∙ (getD-append-right (gathered memory froms starts r) piece (getD starts r 0) p 0 (places r (omega arith)) low ∙ (getD-take (getD starts (suc r) 0 - getD starts r 0) (drop (getD froms r 0) memory) o 0 (omega arith) ∙ getD-drop (getD froms r 0) memory o 0)))
 
-nth-text : (bs : List ℕ) (end : List Cell) (p : ℕ) → p < length bs → nth (bytes bs ++ end) p ≡ Some (Byte (getD bs p 0))
+pub nth-text : (bs : List ℕ) (end : List Cell) (p : ℕ) → p < length bs → nth (bytes bs ++ end) p ≡ Some (Byte (getD bs p 0))
 nth-text [] end p h = absurd (omega arith)
 nth-text (b ∷ bs) end zero h = refl
 nth-text (b ∷ bs) end (suc p) h = nth-text bs end p (omega arith)
 
-nth-end : (bs : List ℕ) (end : List Cell) (p : ℕ) → length bs ≤ p → nth (bytes bs ++ end) p ≡ nth end (p - length bs)
+pub nth-end : (bs : List ℕ) (end : List Cell) (p : ℕ) → length bs ≤ p → nth (bytes bs ++ end) p ≡ nth end (p - length bs)
 nth-end [] end p h = let e : p ≡ p - 0 = omega arith in ap (nth end) e
 nth-end (b ∷ bs) end zero h = absurd (omega arith)
 nth-end (b ∷ bs) end (suc p) h =

@@ -1,14 +1,17 @@
 -- A memory of numbered records, read along the chain of their next indices.
 use mathlib.Core.Bool.{cond}
 use mathlib.Core.List.{List, [], _∷_, _++_}
-use Prim.Native.Nat.{ℕ, zero, suc, min, _+_, _*_, _/_}
+use mathlib.Core.Path.{_≡_}
+use Prim.Native.Nat.{ℕ, zero, suc, min, _+_, _*_, _/_, _≤_}
 use lib.Dec.{eqb, ltb}
 use lib.ListN.{length, take, drop}
 use Rattle.std.specs.declared.option.Option.{Option}
 use Rattle.std.specs.declared.option.Option.the-variants.{Some, None}
+use Rattle.std.specs.declared.result.Result.the-variants.{Err}
+use Rattle.texts.specs.declared.cell.Fault.{Fault}
 use Rattle.texts.specs.declared.cell.Cell.{Cell}
 use Rattle.texts.specs.declared.cell.Cell.the-variants.{Byte, Bad}
-use Rattle.texts.specs.Cells.{bytes}
+use Rattle.texts.specs.Cells.{answer, bytes}
 use Rattle.chain.specs.declared.damage.Damage.{Damage}
 use Rattle.chain.specs.declared.damage.Damage.the-variants.{NoRecord, TooMany}
 use Rattle.chain.specs.Damages.{faultOf}
@@ -46,3 +49,10 @@ chainFrom memory (suc left) own (suc number) =
 -- the cells of the chain that begins at an index
 abbrev pub chained : List ℕ → ℕ → List Cell
 chained memory first = chainFrom memory (recordsOf memory) 0 first
+
+-- what holds of every chain's cells
+pub record Chain (cells : List Cell) : Type 0 where
+  -- at most 60 cells for each of 256 records, and a bad one
+  pub short : length cells ≤ 15361
+  -- a bad cell is the last one, and its own place is the number of cells before it
+  pub last : (p : ℕ) (f : Fault) → answer cells p ≡ Err f → (f .own ≡ p) × (length cells ≡ p + 1)

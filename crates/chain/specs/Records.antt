@@ -22,9 +22,13 @@ usedOf bytes = getD bytes 2 0
 abbrev pub textOf : List ℕ → List ℕ
 textOf bytes = take (usedOf bytes) (drop 4 bytes)
 
+-- the sum of bytes 0, 1 and 2
+abbrev pub headOf : List ℕ → ℕ
+headOf bytes = getD bytes 0 0 + getD bytes 1 0 + getD bytes 2 0
+
 -- the check that a record ought to have: the sum of bytes 0, 1 and 2 and of the used text, modulo 256
 abbrev pub checkOf : List ℕ → ℕ
-checkOf bytes = (getD bytes 0 0 + getD bytes 1 0 + getD bytes 2 0 + sum (textOf bytes)) % 256
+checkOf bytes = (headOf bytes + sum (textOf bytes)) % 256
 
 -- what is wrong with a record, if anything
 abbrev pub recordDamage : List ℕ → Option Damage

@@ -47,5 +47,8 @@ from-short memory (suc left) own (suc number) =
     let more = chainFrom memory left (own + length text) (nextOf r) in
     unless-short (damageAt memory (suc left) number) own (60 * suc left + 1) (bytes text ++ more) (omega arith) (λ e. omega (arith, taken-is memory (suc left) number e .2, from-short memory left (own + length text) (nextOf r), length-append (bytes text) more, length-map text Byte, length-take (usedOf r) (drop 4 r)))
 
+pub chained-within : (memory : List ℕ) (first : ℕ) → length (chained memory first) ≤ 15361
+chained-within memory first = omega (arith, from-short memory (recordsOf memory) 0 first)
+
 pub chained-short : (memory : List ℕ) (first : ℕ) → length (chained memory first) ≤ 16384
 chained-short memory first = omega (arith, from-short memory (recordsOf memory) 0 first)

@@ -1,8 +1,8 @@
 // One record of 64 bytes: the next index, the used length, the check, and the text.
 ghost use mathlib.Core.Path.{_≡_};
-ghost use Prim.Native.Nat.{ℕ, _≤_, _<_};
-ghost use lib.ListN.{length, getD};
-ghost use Rattle.chain.specs.Records.{nextOf, textOf, checkOf, recordDamage};
+ghost use Prim.Native.Nat.{ℕ, _%_, _≤_, _<_};
+ghost use lib.ListN.{length};
+ghost use Rattle.chain.specs.Records.{nextOf, usedOf, headOf, checkOf, recordDamage};
 use crate::damage::Damage;
 
 // The next index, high byte first.
@@ -13,13 +13,21 @@ pub fn next_of(bytes: &[u8]) -> u16
     u16::from(bytes[0]) * 256 + u16::from(bytes[1])
 }
 
+// The sum of the bytes before the check.
+fn head_sum(bytes: &[u8]) -> u8
+    requires { ⌜ length (now bytes) ≡ 64 ⌝ }
+    ensures { λ r. ⌜ r ≡ headOf (now (bytes .entry)) % 256 ⌝ }
+{
+    bytes[0].wrapping_add(bytes[1]).wrapping_add(bytes[2])
+}
+
 // The check that the record ought to have.
 fn check_of(bytes: &[u8]) -> u8
-    requires { ⌜ length (now bytes) ≡ 64 ⌝ ∗ ⌜ getD (now bytes) 2 0 ≤ 60 ⌝ }
+    requires { ⌜ length (now bytes) ≡ 64 ⌝ ∗ ⌜ usedOf (now bytes) ≤ 60 ⌝ }
     ensures { λ r. ⌜ r ≡ checkOf (now (bytes .entry)) ⌝ }
 {
+    let mut sum = head_sum(bytes);
     let end = 4 + usize::from(bytes[2]);
-    let mut sum = bytes[0].wrapping_add(bytes[1]).wrapping_add(bytes[2]);
     for byte in &bytes[4..end] {
         sum = sum.wrapping_add(*byte);
     }

@@ -6,7 +6,7 @@ ghost use lib.ListN.{length, getD};
 ghost use denote.Ref.{now};
 ghost use Rattle.texts.specs.declared.cell.Cell.{Cell};
 ghost use Rattle.texts.specs.Cells.{answer, bytes};
-ghost use Rattle.chain.specs.Chains.{recordsOf, chained};
+ghost use Rattle.chain.specs.Chains.{recordsOf, chained, Chain};
 ghost use Rattle.chain.specs.Short.{chained-short};
 ghost use Rattle.chain.specs.Walks.{gathered, ending};
 use crate::walk::Walk;
@@ -56,6 +56,7 @@ impl<'a> ChainStore<'a> {
     pub fn new(memory: &'a [u8], first: u16) -> ChainStore<'a>
         ensures memory { λ r. ⌜ now (r .memory) ≡ now (memory .entry) ⌝ }
         ensures first { λ r. ⌜ r .first ≡ first ⌝ }
+        ensures chain { λ r. ⌜ Chain (chained (now (r .memory)) (r .first)) ⌝ }
     {
         let walk = walk_along(memory, first);
         ChainStore {
