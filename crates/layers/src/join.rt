@@ -28,6 +28,13 @@ fn overfull_cell(place: usize) -> Result<Option<u8>, Fault>
     }
 }
 
+// The answer of a text below, as it is: a fault keeps its own place.
+fn below<T: Text>(text: &T, place: usize) -> Result<Option<u8>, Fault>
+    ensures { λ r. ⌜ r ≡ answer (T·Text .cells (now (text .entry))) place ⌝ }
+{
+    text.cell(place)
+}
+
 pub impl<X: Text, Y: Text> Text for Join<X, Y> as JoinText {
     ghost cells = { λ s. joined (X·Text .cells (s .first)) (Y·Text .cells (s .second)) };
 
@@ -51,20 +58,20 @@ pub impl<X: Text, Y: Text> Text for Join<X, Y> as JoinText {
         let m = self.first.len();
         let n = self.second.len();
         if m == 0 {
-            return self.second.cell(place);
+            return below(&self.second, place);
         }
         if n == 0 {
-            return self.first.cell(place);
+            return below(&self.first, place);
         }
         if m + 1 + n > 16384 {
             return overfull_cell(place);
         }
         if place < m {
-            self.first.cell(place)
+            below(&self.first, place)
         } else if place == m {
             Ok(Some(44))
         } else {
-            self.second.cell(place - m - 1)
+            below(&self.second, place - m - 1)
         }
     }
 }

@@ -11,7 +11,7 @@ returns-then-m-n-gt16384 g c =
 
 pub returns-then-place-m : need.returns-then-place-m
 returns-then-place-m g c =
-    c .cell-then-place-m .ensures
+    c .below-then-place-m .ensures
     ∙ join-front (g .X·Text .cells (c .args .self .now .first)) (g .Y·Text .cells (c .args .self .now .second)) (c .len-m .result) (c .len-n .result) (c .args .place) (c .len-m .ensures) (c .len-n .ensures) (c .if-m-eq0 .left) (c .if-n-eq0 .left) (c .if-m-n-gt16384 .left) (c .if-place-m .taken)
 
 pub returns-then-place-m-2 : need.returns-then-place-m-2
@@ -20,5 +20,5 @@ returns-then-place-m-2 g c =
 
 pub returns-else-place-m-2 : need.returns-else-place-m-2
 returns-else-place-m-2 g c =
-    c .cell-else-place-m-2 .ensures
+    c .below-else-place-m-2 .ensures
     ∙ join-back (g .X·Text .cells (c .args .self .now .first)) (g .Y·Text .cells (c .args .self .now .second)) (c .len-m .result) (c .len-n .result) (c .args .place) (c .len-m .ensures) (c .len-n .ensures) (c .if-m-eq0 .left) (c .if-n-eq0 .left) (c .if-m-n-gt16384 .left) (c .if-place-m .left) (c .if-place-m-2 .left)
