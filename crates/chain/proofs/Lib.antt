@@ -3,3 +3,4 @@ pub mod Checks
 pub mod Damaged
 pub mod Faults
 pub mod Pieces
+pub mod Samples

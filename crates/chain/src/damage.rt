@@ -5,7 +5,7 @@ ghost use Rattle.chain.specs.Damages.{numberOf, faultOf};
 use texts::cell::Fault;
 
 #[derive(Clone, Copy)]
-pub enum Damage {
+pub(crate) enum Damage {
     // the index is past the last record
     NoRecord,
     // as many records were taken as the memory has
@@ -28,7 +28,7 @@ fn number_of(damage: Damage) -> u8
 }
 
 // Its fault, where `own` cells stand before it.
-pub fn fault_of(damage: Damage, own: usize) -> Fault
+pub(crate) fn fault_of(damage: Damage, own: usize) -> Fault
     ensures { λ r. ⌜ r ≡ faultOf damage own ⌝ }
 {
     let number = number_of(damage);

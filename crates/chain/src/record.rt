@@ -6,7 +6,7 @@ ghost use Rattle.chain.specs.Records.{nextOf, usedOf, headOf, checkOf, recordD
 use crate::damage::Damage;
 
 // The next index, high byte first.
-pub fn next_of(bytes: &[u8]) -> u16
+pub(crate) fn next_of(bytes: &[u8]) -> u16
     requires { ⌜ length (now bytes) ≡ 64 ⌝ }
     ensures { λ r. ⌜ r ≡ nextOf (now (bytes .entry)) ⌝ }
 {
@@ -35,7 +35,7 @@ fn check_of(bytes: &[u8]) -> u8
 }
 
 // What is wrong with a record, if anything.
-pub fn record_damage(bytes: &[u8]) -> Option<Damage>
+pub(crate) fn record_damage(bytes: &[u8]) -> Option<Damage>
     requires { ⌜ length (now bytes) ≡ 64 ⌝ }
     ensures { λ r. ⌜ r ≡ recordDamage (now (bytes .entry)) ⌝ }
 {

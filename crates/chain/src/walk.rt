@@ -43,7 +43,7 @@ fn damage_at(memory: &[u8], left: usize, number: usize) -> Option<Damage>
 
 // The pieces of a chain's text, in its order: where each begins in the memory, and the place of its first cell.
 #[derive(Clone, Copy)]
-pub struct Walk {
+pub(crate) struct Walk {
     froms: [u16; 256],
     // one more: the last is the number of all bytes
     starts: [u16; 257],
@@ -66,7 +66,7 @@ impl Walk {
     }
 
     // How many bytes the pieces have.
-    pub fn size(&self) -> usize
+    pub(crate) fn size(&self) -> usize
         requires { ⌜ now self .taken ≤ 256 ⌝ }
         ensures value { λ r. ⌜ r ≡ getD (now (self .entry) .starts) (now (self .entry) .taken) 0 ⌝ }
         ensures bound { λ r. ⌜ r < 2 ^ 16 ⌝ }
@@ -74,7 +74,7 @@ impl Walk {
         usize::from(self.starts[self.taken])
     }
 
-    pub fn damage(&self) -> Option<Fault>
+    pub(crate) fn damage(&self) -> Option<Fault>
         ensures { λ r. ⌜ r ≡ now (self .entry) .damage ⌝ }
     {
         self.damage
@@ -101,7 +101,7 @@ impl Walk {
     }
 
     // The byte at a place of the text.
-    pub fn byte_at(&self, memory: &[u8], place: usize) -> u8
+    pub(crate) fn byte_at(&self, memory: &[u8], place: usize) -> u8
         requires within { ⌜ now self .taken ≤ 256 ⌝ }
         requires before { ⌜ place < getD (now self .starts) (now self .taken) 0 ⌝ }
         requires places { ⌜ ((k : ℕ) → k ≤ now self .taken → length (gathered (now memory) (now self .froms) (now self .starts) k) ≡ getD (now self .starts) k 0) ⌝ }
@@ -128,7 +128,7 @@ impl Walk {
 }
 
 // Walks along the chain that begins at an index, up to its end or to damage.
-pub fn walk_along(memory: &[u8], first: u16) -> Walk
+pub(crate) fn walk_along(memory: &[u8], first: u16) -> Walk
     ensures { λ r. ⌜ Walked (now (memory .entry)) first (r .froms) (r .starts) (r .taken) (ending (r .damage)) ⌝ }
 {
     let records = record_count(memory);

@@ -1,3 +1,4 @@
 pub mod Covering
 pub mod Joining
 pub mod Marking
+pub mod Samples
