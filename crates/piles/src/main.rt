@@ -22,6 +22,23 @@ use texts::text::RefText;
 use texts::trim::Trim;
 use texts::trim::TrimText;
 
+// A chain, then the join of its cover with more bytes, trimmed, and the cover of both joined.
+fn pile(rt: &LibcRuntime, name: &str, memory: &[u8], first: u16, more: &[u8]) -> io::Result<()> {
+    let store = ChainStore::new(memory, first);
+    let second = ByteStore::new(more);
+    show(rt, name, &store)?;
+    show(
+        rt,
+        "  trim of join of cover",
+        &Trim::new(Join::new(Cover::new(store), second)),
+    )?;
+    show(
+        rt,
+        "  cover of join",
+        &Cover::new(Join::new(&store, &second)),
+    )
+}
+
 // A good chain that goes from the first record to the third and back to the second.
 fn good(rt: &LibcRuntime) -> io::Result<()> {
     let memory = chain_of(
@@ -32,55 +49,21 @@ fn good(rt: &LibcRuntime) -> io::Result<()> {
             record(2, b",\r\nfirefox"),
         ],
     )?;
-    let store = ChainStore::new(&memory, 1);
-    let more = ByteStore::new(b"dead # all\n");
-    show(rt, "chain", &store)?;
-    show(rt, "cover", &Cover::new(&store))?;
-    show(rt, "cover of cover", &Cover::new(Cover::new(&store)))?;
-    show(rt, "trim of cover", &Trim::new(Cover::new(&store)))?;
-    show(rt, "join", &Join::new(&store, more))?;
-    show(
-        rt,
-        "trim of join of cover",
-        &Trim::new(Join::new(Cover::new(store), more)),
-    )?;
-    show(
-        rt,
-        "trim of cover of join",
-        &Trim::new(Cover::new(Join::new(store, more))),
-    )?;
-    show(
-        rt,
-        "join with no first",
-        &Join::new(ChainStore::new(&memory, 0), more),
-    )?;
-    show(
-        rt,
-        "join with no second",
-        &Join::new(store, ByteStore::new(b"")),
-    )
+    pile(rt, "good", &memory, 1, b"dead # all\n")?;
+    pile(rt, "no second text", &memory, 1, b"")?;
+    pile(rt, "no first text", &memory, 0, b"dead # all\n")?;
+    pile(rt, "comment without an end", &memory, 3, b"# x")
 }
 
-// A chain under a cover, a join and a trim.
-fn pile(rt: &LibcRuntime, name: &str, memory: &[u8], first: u16) -> io::Result<()> {
-    let store = ChainStore::new(memory, first);
-    let more = ByteStore::new(b" x\n y ");
-    show(rt, name, &store)?;
-    show(rt, "  pile", &Trim::new(Join::new(Cover::new(store), more)))?;
-    show(
-        rt,
-        "  under one cover",
-        &Cover::new(Join::new(&store, &more)),
-    )
-}
+const MORE: &[u8] = b" x\n y ";
 
 // Memories with no record, and one with a record that follows itself.
 fn few(rt: &LibcRuntime) -> io::Result<()> {
-    pile(rt, "no record, no index", b"", 0)?;
-    pile(rt, "no record, index 1", b"", 1)?;
+    pile(rt, "no record, no index", b"", 0, MORE)?;
+    pile(rt, "no record, index 1", b"", 1, MORE)?;
     let one = record(1, b"#x");
-    pile(rt, "part of a record", &one[0..63], 1)?;
-    pile(rt, "record that follows itself", &one, 1)
+    pile(rt, "part of a record", &one[0..63], 1, MORE)?;
+    pile(rt, "record that follows itself", &one, 1, MORE)
 }
 
 // Indices that lead nowhere or round.
@@ -89,30 +72,27 @@ fn indices(rt: &LibcRuntime) -> io::Result<()> {
         rt.alloc(),
         &[record(2, b" a"), record(1, b"b#"), record(9, b"c")],
     )?;
-    pile(rt, "first index past the memory", &three, 4)?;
-    pile(rt, "next index past the memory", &three, 3)?;
-    pile(rt, "ring of two in three records", &three, 1)?;
-    pile(rt, "part of the second record", front(&three, 127), 1)
+    pile(rt, "first index past the memory", &three, 4, MORE)?;
+    pile(rt, "next index past the memory", &three, 3, MORE)?;
+    pile(rt, "ring of two in three records", &three, 1, MORE)?;
+    pile(rt, "part of the second record", front(&three, 127), 1, MORE)
+}
+
+// A chain of two records with another byte at a place.
+fn spoil(rt: &LibcRuntime, name: &str, place: usize, byte: u8) -> io::Result<()> {
+    let memory = chain_of(rt.alloc(), &[record(2, b" # good\n"), record(0, b"text")])?;
+    let memory = spoilt(memory, place, byte);
+    pile(rt, name, &memory, 1, MORE)
 }
 
 // Records that are spoilt.
 fn records(rt: &LibcRuntime) -> io::Result<()> {
-    let heap = rt.alloc();
-    let ok = chain_of(heap, &[record(2, b" # good\n"), record(0, b"text")])?;
-    pile(rt, "whole", &ok, 1)?;
-    let ok = spoilt(ok, 64 + 5, b'E');
-    pile(rt, "wrong text", &ok, 1)?;
-    let ok = spoilt(ok, 64 + 5, b'e');
-    let ok = spoilt(ok, 1, 3);
-    pile(rt, "wrong index", &ok, 1)?;
-    let ok = spoilt(ok, 1, 2);
-    let ok = spoilt(ok, 64 + 2, 61);
-    pile(rt, "61 bytes used", &ok, 1)?;
-    let ok = spoilt(ok, 64 + 2, 255);
-    pile(rt, "255 bytes used", &ok, 1)?;
-    let ok = spoilt(ok, 64 + 63, 1);
-    let ok = spoilt(ok, 64 + 2, 4);
-    pile(rt, "unused bytes do not count", &ok, 1)
+    spoil(rt, "wrong index", 1, 3)?;
+    spoil(rt, "wrong check", 3, 0)?;
+    spoil(rt, "wrong text", 64 + 5, b'E')?;
+    spoil(rt, "61 bytes used", 64 + 2, 61)?;
+    spoil(rt, "255 bytes used", 64 + 2, 255)?;
+    spoil(rt, "unused byte", 64 + 63, 1)
 }
 
 // Chains of as many records as count, and of more.
@@ -125,11 +105,6 @@ fn rings(rt: &LibcRuntime) -> io::Result<()> {
     show_end(rt, "join that fits", &Join::new(&round, some))?;
     let much = ByteStore::new(front(&memory, 1023));
     show_end(rt, "join that does not fit", &Join::new(&round, much))?;
-    show_end(
-        rt,
-        "bytes that do not fit",
-        &Trim::new(ByteStore::new(&memory)),
-    )?;
     show_end(rt, "record 257 of 257", &ChainStore::new(&memory, 257))?;
     show_end(rt, "from record 255 of 257", &ChainStore::new(&memory, 255))
 }
