@@ -1,0 +1,5 @@
+pub mod Chains
+pub mod Damages
+pub mod Records
+pub mod Short
+pub mod Walks

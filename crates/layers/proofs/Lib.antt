@@ -1,0 +1,4 @@
+pub mod Covering
+pub mod Joining
+pub mod Marking
+pub mod Samples
