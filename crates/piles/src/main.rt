@@ -8,6 +8,7 @@ use layers::cover::Cover;
 use layers::cover::CoverText;
 use layers::join::Join;
 use layers::join::JoinText;
+use listing::print_reading;
 use memory::chain_of;
 use memory::front;
 use memory::record;
@@ -37,6 +38,38 @@ fn pile(rt: &LibcRuntime, name: &str, memory: &[u8], first: u16, more: &[u8]) ->
         "  cover of join",
         &Cover::new(Join::new(&store, &second)),
     )
+}
+
+// What a reader answers on the trim of the join of a cover over the chain with more bytes.
+fn read(rt: &LibcRuntime, name: &str, memory: &[u8], first: u16, more: &[u8]) -> io::Result<()> {
+    let store = ChainStore::new(memory, first);
+    println!(rt, "read: {name}")?;
+    print_reading(
+        rt,
+        &Trim::new(Join::new(Cover::new(store), ByteStore::new(more))),
+    )
+}
+
+// A statement of two records and the site's own, good and with each kind of damage.
+fn readings(rt: &LibcRuntime) -> io::Result<()> {
+    let memory = chain_of(
+        rt.alloc(),
+        &[
+            record(2, b"last 2 versions # factory\r\n"),
+            record(0, b"and not dead\n"),
+        ],
+    )?;
+    let site = b"chrome >= 60 or current node";
+    read(rt, "good", &memory, 1, site)?;
+    read(rt, "index past the memory", &memory, 3, site)?;
+    read(rt, "text outside the grammar", &memory, 1, b"x, electron")?;
+    read(rt, "text that is not UTF-8", &memory, 2, b"\xff")?;
+    let memory = spoilt(memory, 64 + 1, 1);
+    read(rt, "wrong check", &memory, 1, site)?;
+    let memory = spoilt(memory, 64 + 3, 106);
+    read(rt, "ring", &memory, 1, site)?;
+    let memory = spoilt(memory, 64 + 2, 61);
+    read(rt, "61 bytes used", &memory, 1, site)
 }
 
 // A good chain that goes from the first record to the third and back to the second.
@@ -114,5 +147,6 @@ fn main(rt: LibcRuntime) -> io::Result<()> {
     few(&rt)?;
     indices(&rt)?;
     records(&rt)?;
-    rings(&rt)
+    rings(&rt)?;
+    readings(&rt)
 }

@@ -3,10 +3,7 @@
 ghost use Prim.Native.Nat.{ℕ, _≤_};
 ghost use lib.ListN.{length};
 ghost use Rattle.std.specs.Results.{Cases};
-use grammar::query::SingleQuery;
-use reader::reader::Reader;
-use reader::refusal::Refusal;
-use reader::step::Step;
+use listing::print_reading;
 use std::io;
 use std::io::Read;
 use texts::store::ByteStore;
@@ -28,62 +25,11 @@ fn fill<R: Read>(input: &mut R, buf: &mut [u8]) -> io::Result<usize>
     Ok(n)
 }
 
-fn print_query(rt: &LibcRuntime, query: SingleQuery) -> io::Result<()> {
-    let start = query.raw.start;
-    let end = query.raw.end;
-    let negated = u8::from(query.negated);
-    let is_and = u8::from(query.is_and);
-    let name = query.atom.name();
-    println!(rt, "{start} {end} {negated} {is_and} {name}")
-}
-
-fn print_refusal(rt: &LibcRuntime, refusal: Refusal) -> io::Result<()> {
-    let number = refusal.number();
-    let place = refusal.place();
-    println!(rt, "refused {number} {place}")
-}
-
-// Prints what a step gave; false where it was the last.
-fn print_step(rt: &LibcRuntime, answer: Result<Step, Refusal>, given: usize) -> io::Result<bool> {
-    match answer {
-        Ok(step) => match step {
-            Step::Given(query) => {
-                print_query(rt, query)?;
-                Ok(true)
-            }
-            Step::End => {
-                println!(rt, "ok {given}")?;
-                Ok(false)
-            }
-        },
-        Err(refusal) => {
-            print_refusal(rt, refusal)?;
-            Ok(false)
-        }
-    }
-}
-
-fn print_statement(rt: &LibcRuntime, bytes: &[u8]) -> io::Result<()> {
-    let store = ByteStore::new(bytes);
-    match Reader::start(&store) {
-        Err(refusal) => print_refusal(rt, refusal),
-        Ok(mut reader) => {
-            for given in 0..16385 {
-                let answer = reader.step();
-                if !print_step(rt, answer, given)? {
-                    break;
-                }
-            }
-            Ok(())
-        }
-    }
-}
-
 fn run(rt: &LibcRuntime) -> io::Result<()> {
     let mut buf = [0; 16385];
     let mut input = rt.stdin();
     let n = fill(&mut input, &mut buf)?;
-    print_statement(rt, &buf[0..n])
+    print_reading(rt, &ByteStore::new(&buf[0..n]))
 }
 
 fn main(rt: LibcRuntime) -> io::Result<()> {
