@@ -1,1 +1,4 @@
+pub mod Joining
 pub mod Made
+pub mod Reading
+pub mod Turning

@@ -10,7 +10,7 @@ use lib.ListN.{length, take, set, getD}
 use Rattle.std.specs.declared.result.Result.{Result}
 use Rattle.std.specs.declared.result.Result.the-variants.{Ok, Err}
 use Rattle.std.proofs.shelf.Tests.{cond-both, leb-true, leb-false}
-use Rattle.std.proofs.shelf.Lists.{take-more-set, map-set, set-getD}
+use Rattle.std.proofs.shelf.Lists.{take-more-set}
 use Rattle.grammar.specs.declared.query.SingleQuery.{SingleQuery}
 use Rattle.reader.specs.declared.refusal.Refusal.{Refusal}
 use Rattle.reader.specs.declared.refusal.Refusal.the-variants.{NoReading, AtStart}
@@ -73,6 +73,10 @@ makes-over t k m q em eq = subst (λ n. Makes t k StartOver Anew n q) (sym em) (
 
 pub makes-place : (t : List ℕ) (k p r : ℕ) → Stands t k p → r ≡ p → Makes t k Place (At r) k p
 makes-place t k p r st er = (tells (sym (er ∙ st .0)), st)
+
+-- the same of an equal call and an equal answer
+pub makes-as : (t : List ℕ) (k : ℕ) (c d : Call) (r s : Answer) (m q : ℕ) → d ≡ c → s ≡ r → Makes t k c r m q → Makes t k d s m q
+makes-as t k c d r s m q ec er h = subst (λ x. Makes t k x s m q) (sym ec) (subst (λ x. Makes t k c x m q) (sym er) h)
 
 -- one exchange more
 runs-more : {t : List ℕ} {k m n : ℕ} {xs : List Exchange} {x : Exchange} → Runs t k xs m → Does t m (x .call) (x .answer) n → Runs t k (xs ++ x ∷ []) n
