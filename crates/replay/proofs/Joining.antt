@@ -4,7 +4,7 @@ use mathlib.Core.Bool.{Bool, true, false, cond}
 use mathlib.Core.List.{List, [], _∷_, _++_, map, reverse}
 use Prim.Native.Nat.{ℕ, zero, suc, _+_, _-_, _≤_, _<_}
 use native.Mathlib.Omega.{arith}
-use lib.ListN.{length, take, drop, getD, length-append, length-reverse}
+use lib.ListN.{length, take, drop, getD, length-reverse}
 use Rattle.std.specs.declared.option.Option.{Option}
 use Rattle.std.specs.declared.option.Option.the-variants.{Some, None}
 use Rattle.std.proofs.shelf.Lists.{getD-reverse}
@@ -16,13 +16,7 @@ use Rattle.grammar.specs.Along.{queries}
 use Rattle.grammar.specs.Readings.{Turns, Reading, spelling, moved-turn, moved-turns, behind-comma, Joinable}
 use Rattle.grammar.proofs.Moved.{query-spells, query-joins}
 use Rattle.replay.specs.Law.{QueryTurn, joined, queryOf, queriesOf, Bare, moved, Follow, Joins}
-
--- the queries of turns and of further turns behind them
-queries-append : (us ws : List QueryTurn) (p q : ℕ) → q ≡ p + length (spelling us) → queriesOf p (us ++ ws) ≡ queriesOf p us ++ queriesOf q ws
-queries-append [] ws p q e = let same : p ≡ q = omega arith in ap (λ n. queriesOf n ws) same
-queries-append (u ∷ us) ws p q e =
-    let next : q ≡ p + length (u .sep) + length (u .raw) + length (spelling us) = omega (arith, e, length-append (u .sep) (u .raw ++ spelling us), length-append (u .raw) (spelling us)) in
-    ap (λ l. queryOf p u ∷ l) (queries-append us ws (p + length (u .sep) + length (u .raw)) q next)
+use Rattle.replay.proofs.Turning.{queries-append}
 
 -- a turn moved along, as a query; its separator may be another that says the same
 query-moved : (n p q : ℕ) (u v : QueryTurn) → joined (v .link) ≡ joined (u .link) → v .value ≡ (u .value .0, queries .along n (u .value) .1) → v .raw ≡ u .raw → q + length (v .sep) ≡ n + (p + length (u .sep)) → queryOf q v ≡ moved n (queryOf p u)

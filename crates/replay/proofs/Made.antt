@@ -79,7 +79,7 @@ pub makes-as : (t : List ℕ) (k : ℕ) (c d : Call) (r s : Answer) (m q : ℕ) 
 makes-as t k c d r s m q ec er h = subst (λ x. Makes t k x s m q) (sym ec) (subst (λ x. Makes t k c x m q) (sym er) h)
 
 -- one exchange more
-runs-more : {t : List ℕ} {k m n : ℕ} {xs : List Exchange} {x : Exchange} → Runs t k xs m → Does t m (x .call) (x .answer) n → Runs t k (xs ++ x ∷ []) n
+pub runs-more : {t : List ℕ} {k m n : ℕ} {xs : List Exchange} {x : Exchange} → Runs t k xs m → Does t m (x .call) (x .answer) n → Runs t k (xs ++ x ∷ []) n
 runs-more none d = more d none
 runs-more (more e rest) d = more e (runs-more rest d)
 

@@ -4,19 +4,21 @@ use mathlib.Core.Bool.{Bool, true, false}
 use mathlib.Core.List.{List, [], _∷_, _++_, map, append-assoc}
 use Prim.Native.Nat.{ℕ, zero, suc, _+_, _-_, _≤_, _<_}
 use native.Mathlib.Omega.{arith}
-use lib.ListN.{length, take, drop, length-append}
+use lib.ListN.{length, take, drop, length-append, length-drop}
 use Rattle.std.specs.declared.result.Result.the-variants.{Ok, Err}
-use Rattle.std.proofs.shelf.Lists.{drop-drop, take-append-drop}
+use Rattle.std.proofs.shelf.Lists.{drop-drop, take-append-drop, map-append}
 use Rattle.grammar.specs.declared.query.SingleQuery.{SingleQuery}
 use Rattle.grammar.specs.Form.{between}
 use Rattle.grammar.specs.Along.{queries}
 use Rattle.grammar.specs.Readings.{Turns, Reading, spelling}
 use Rattle.grammar.proofs.Moved.{query-single}
 use Rattle.reader.specs.Steps.{queryK, placeOf}
+use Rattle.reader.proofs.Stepping.{next-end}
 use Rattle.reader.proofs.Places.{place-fits, place-next}
 use Rattle.replay.specs.Runs.{Does, gives, ends, Runs, none, more, Begun}
 use Rattle.replay.specs.Law.{QueryTurn, queryOf, queriesOf, Spelt, giving, ending, Reads, Once}
-use Rattle.replay.proofs.Turning.{begun, turn-fits, turn-long, turn-query, query-turn}
+use Rattle.replay.proofs.Made.{runs-more}
+use Rattle.replay.proofs.Turning.{begun, turn-fits, turn-long, turn-query, query-turn, queries-append}
 
 -- one turn more
 turns-push : (us : List QueryTurn) (j k : ℕ) (t : List ℕ) (p q e : ℕ) (u : QueryTurn) → j ≡ k + length us → Turns queries (begun k) t p us q → Turns queries (begun j) t q (u ∷ []) e → Turns queries (begun k) t p (us ++ u ∷ []) e
@@ -26,19 +28,6 @@ turns-push [] j k t p q e u ej h c =
 turns-push (v ∷ us) j k t p q e u ej h c =
     let next : j ≡ suc k + length us = omega arith in
     (h .0, h .1, h .2, h .3, h .4, h .5, turns-push us j (suc k) t (h .1) q e u next (h .6) c)
-
--- the k queries before the place are turns
-turns-before : (t : List ℕ) (k : ℕ) → Begun t k → (us : List QueryTurn) × (length us ≡ k) × Turns queries false t 0 us (placeOf t k)
-turns-before t zero b = ([], refl, refl)
-turns-before t (suc k) b =
-    let w = turns-before t k (b .0) in
-    let c = query-turn t k (placeOf t k) (b .1) (place-fits t k) (b .2) in
-    let u = c .0 in
-    let j : k ≡ 0 + length (w .0) = omega (arith, w .1) in (
-      w .0 ++ u ∷ [],
-      omega (arith, w .1, length-append (w .0) (u ∷ [])),
-      subst (Turns queries false t 0 (w .0 ++ u ∷ [])) (sym (place-next t k (b .1) (b .2))) (turns-push (w .0) k 0 t 0 (placeOf t k) (b .1 .raw .end) u j (w .2) (c .1)),
-    )
 
 between-rest : (t : List ℕ) (p m : ℕ) → p ≤ m → between t p m ++ drop m t ≡ drop p t
 between-rest t p m h =
@@ -56,8 +45,36 @@ spells-from (u ∷ us) b t p q l h =
     ∙ (ap (λ l. u .sep ++ l) (append-assoc (u .raw) (spelling us) (drop q t))
     ∙ ((λ i. h .3 i ++ raw i) ∙ between-rest t p (h .0) (w .0)))
 
+-- the place is behind what the turns before it spell
+spelt-long : (us : List QueryTurn) (t : List ℕ) (q : ℕ) → q ≤ length t → spelling us ++ drop q t ≡ t → q ≡ 0 + length (spelling us)
+spelt-long us t q l e = omega (arith, ap length e, length-append (spelling us) (drop q t), length-drop q t)
+
+-- the queries of one turn more
+steps-push : (us : List QueryTurn) (u : QueryTurn) (p : ℕ) (q : SingleQuery) → p ≡ 0 + length (spelling us) → queryOf p u ≡ q → map giving (queriesOf 0 (us ++ u ∷ [])) ≡ map giving (queriesOf 0 us) ++ giving q ∷ []
+steps-push us u p q e h =
+    ap (map giving) (queries-append us (u ∷ []) 0 p e)
+    ∙ (map-append giving (queriesOf 0 us) (queryOf p u ∷ []) ∙ ap (λ x. map giving (queriesOf 0 us) ++ giving x ∷ []) h)
+
+spelt-more : (t : List ℕ) (k : ℕ) (q : SingleQuery) → queryK t k (placeOf t k) ≡ Ok q → Spelt t k → Spelt t (suc k)
+spelt-more t k q h w =
+    let p = placeOf t k in
+    let c = query-turn t k p q (place-fits t k) h in
+    let us = w .turns ++ c .0 ∷ [] in
+    let n : k ≡ 0 + length (w .turns) = omega (arith, w .count) in
+    let b = next-end t k p q (place-fits t k) h in
+    let stand = subst (Turns queries false t 0 us) (sym (place-next t k q h)) (turns-push (w .turns) k 0 t 0 p (q .raw .end) (c .0) n (w .stand) (c .1)) in
+    let steps = steps-push (w .turns) (c .0) p q (spelt-long (w .turns) t p (place-fits t k) (w .spell)) (c .2) in
+    record {
+      turns = us;
+      count = omega (arith, w .count, length-append (w .turns) (c .0 ∷ []));
+      stand = stand;
+      spell = spells-from us false t 0 (placeOf t (suc k)) (omega arith) stand;
+      given = subst (λ l. Runs t 0 l (suc k)) (sym steps) (runs-more (w .given) (gives (omega (arith, b .0, b .1)) h));
+    }
+
 pub spelt : (t : List ℕ) (k : ℕ) → Begun t k → Spelt t k
-spelt t k b = let w = turns-before t k b in (w .0, w .1, w .2, spells-from (w .0) false t 0 (placeOf t k) (omega arith) (w .2))
+spelt t zero b = record { turns = []; count = refl; stand = refl; spell = refl; given = none }
+spelt t (suc k) b = spelt-more t k (b .1) (b .2) (spelt t k (b .0))
 
 reading-steps : (us : List QueryTurn) (t : List ℕ) (k p m : ℕ) → p ≡ placeOf t k → m ≡ k + length (queriesOf p us) → Turns queries (begun k) t p us (length t) → Runs t k (map giving (queriesOf p us) ++ ending ∷ []) m
 reading-steps [] t k p m ep em h =

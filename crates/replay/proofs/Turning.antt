@@ -4,7 +4,7 @@ use mathlib.Core.Bool.{Bool, true, false}
 use mathlib.Core.List.{List, [], _∷_, _++_}
 use Prim.Native.Nat.{ℕ, zero, suc, _+_, _-_, _≤_, _<_}
 use native.Mathlib.Omega.{arith}
-use lib.ListN.{length, take, drop, length-take, length-drop}
+use lib.ListN.{length, take, drop, length-take, length-drop, length-append}
 use Rattle.std.specs.declared.option.Option.{Option}
 use Rattle.std.specs.declared.option.Option.the-variants.{Some, None}
 use Rattle.std.specs.declared.result.Result.{Result}
@@ -14,10 +14,10 @@ use Rattle.grammar.specs.declared.query.SingleQuery.{SingleQuery}
 use Rattle.grammar.specs.Form.{Value, query, flag, Outcome, between, reads}
 use Rattle.grammar.specs.Forms.{querying, missed, separating}
 use Rattle.grammar.specs.Along.{queries}
-use Rattle.grammar.specs.Readings.{Turn, Between, Turns}
+use Rattle.grammar.specs.Readings.{Turn, Between, Turns, spelling}
 use Rattle.grammar.proofs.Queries.{query-fits, separator-fits}
 use Rattle.reader.specs.Steps.{found, queryAt, atFirst, behind, queryK}
-use Rattle.replay.specs.Law.{QueryTurn, joined, queryOf}
+use Rattle.replay.specs.Law.{QueryTurn, joined, queryOf, queriesOf}
 
 -- whether behind k queries a separator comes first
 abbrev pub begun : ℕ → Bool
@@ -102,3 +102,10 @@ query-turn t zero p q l h = turn-of t zero p p None q l (refl, refl) (first-ok (
 query-turn t (suc k) p q l h =
     let w = behind-ok t p (reads separating t p) q h in
     turn-of t (suc k) p (w .1) (Some (w .0)) q l (w .0, refl, w .2) (w .3)
+
+-- the queries of turns and of further turns behind them
+pub queries-append : (us ws : List QueryTurn) (p q : ℕ) → q ≡ p + length (spelling us) → queriesOf p (us ++ ws) ≡ queriesOf p us ++ queriesOf q ws
+queries-append [] ws p q e = let same : p ≡ q = omega arith in ap (λ n. queriesOf n ws) same
+queries-append (u ∷ us) ws p q e =
+    let next : q ≡ p + length (u .sep) + length (u .raw) + length (spelling us) = omega (arith, e, length-append (u .sep) (u .raw ++ spelling us), length-append (u .raw) (spelling us)) in
+    ap (λ l. queryOf p u ∷ l) (queries-append us ws (p + length (u .sep) + length (u .raw)) q next)

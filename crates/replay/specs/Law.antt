@@ -40,10 +40,6 @@ abbrev pub queriesOf : ℕ → List QueryTurn → List SingleQuery
 queriesOf p [] = []
 queriesOf p (u ∷ us) = queryOf p u ∷ queriesOf (p + length (u .sep) + length (u .raw)) us
 
--- the raws and separators before the place of k queries, and the unread rest, spell the text
-abbrev pub Spelt : List ℕ → ℕ → Type 0
-Spelt t k = (us : List QueryTurn) × (length us ≡ k) × Turns queries false t 0 us (placeOf t k) × (spelling us ++ drop (placeOf t k) t ≡ t)
-
 -- a step that gives a query
 abbrev pub giving : SingleQuery → Exchange
 giving q = record { call = Step; answer = Given q }
@@ -51,6 +47,17 @@ giving q = record { call = Step; answer = Given q }
 -- a step that finds no query left
 abbrev pub ending : Exchange
 ending = record { call = Step; answer = End }
+
+-- the k queries before the place
+pub record Spelt (t : List ℕ) (k : ℕ) : Type 0 where
+  pub turns : List QueryTurn
+  pub count : length turns ≡ k
+  -- each is the one that the grammar gives at its place, with the separator before it
+  pub stand : Turns queries false t 0 turns (placeOf t k)
+  -- raws, separators and the unread rest spell the text
+  pub spell : spelling turns ++ drop (placeOf t k) t ≡ t
+  -- k steps from the start give them
+  pub given : Runs t 0 (map giving (queriesOf 0 turns)) k
 
 -- stepping from the start gives these queries and then "end"
 abbrev pub Stepping : List ℕ → List SingleQuery → Type 0
