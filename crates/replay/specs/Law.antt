@@ -6,16 +6,32 @@ use Prim.Native.Nat.{ℕ, _+_, _<_}
 use lib.ListN.{length, drop}
 use Rattle.std.specs.declared.option.Option.{Option}
 use Rattle.std.specs.declared.option.Option.the-variants.{Some, None}
+use Rattle.texts.specs.declared.cell.Cell.{Cell}
+use Rattle.texts.specs.declared.cell.Cell.the-variants.{Byte, Bad}
+use Rattle.texts.specs.Codes.{codes}
 use Rattle.texts.specs.Spaces.{inFront, behind}
 use Rattle.grammar.specs.declared.query.SingleQuery.{SingleQuery}
 use Rattle.grammar.specs.Form.{Value, query}
 use Rattle.grammar.specs.Along.{span-along, atom-along, queries}
 use Rattle.grammar.specs.Readings.{Turn, Turns, Reading, spelling}
+use Rattle.reader.specs.Utf8.{illFormed}
 use Rattle.reader.specs.Steps.{placeOf}
 use Rattle.replay.specs.declared.calls.Call.the-variants.{Step}
 use Rattle.replay.specs.declared.calls.Answer.the-variants.{Given, End}
 use Rattle.replay.specs.declared.calls.Exchange.{Exchange}
 use Rattle.replay.specs.Runs.{Runs}
+
+-- no cell is bad
+abbrev pub AllBytes : List Cell → Type 0
+AllBytes [] = Unit {0}
+AllBytes (Byte b ∷ cells) = AllBytes cells
+AllBytes (Bad fault ∷ cells) = ⊥
+
+-- a text that a reading can start on
+pub record Readable (cells : List Cell) : Type 0 where
+  pub bytes : AllBytes cells
+  -- no sequence is ill-formed
+  pub formed : illFormed (codes cells) ≡ None
 
 -- a query of a reading with the separator before it
 abbrev pub QueryTurn : Type 0

@@ -4,14 +4,14 @@ ghost use mathlib.Core.List.{map};
 ghost use Prim.Native.Nat.{ℕ};
 ghost use denote.Ref.{now};
 ghost use Rattle.std.specs.Results.{Cases};
-ghost use Rattle.std.specs.declared.result.Result.the-variants.{Ok, Err};
+ghost use Rattle.std.specs.declared.result.Result.the-variants.{Err};
 ghost use Rattle.texts.specs.Codes.{codes};
 ghost use Rattle.texts.specs.Trim.{trimmed};
 ghost use Rattle.reader.specs.Start.{startRefusal};
 ghost use Rattle.reader.specs.Steps.{shown};
 ghost use Rattle.replay.specs.Calls.{callOf, stepTold, backTold};
 ghost use Rattle.replay.specs.Runs.{Does, Stands};
-ghost use Rattle.replay.specs.Law.{Law};
+ghost use Rattle.replay.specs.Law.{Law, Readable};
 use crate::calls::Answer;
 use crate::calls::Call;
 use crate::calls::Exchange;
@@ -60,7 +60,7 @@ pub fn ask<T: Text>(reader: &mut Reader<T>, call: Call) -> Answer
 // Starts a reader over a text, makes every call in order, and puts each answer beside its call.
 // Answers how many queries then stand before the place. Where start refuses, every exchange stays as it was.
 pub fn replay<T: Text>(text: &T, exchanges: &mut [Exchange]) -> Result<usize, Refusal>
-    ensures { λ r. ⌜ Cases r (λ k. (startRefusal (T·Text .cells (now (text .entry))) ≡ Ok tt) × Law (codes (trimmed (T·Text .cells (now (text .entry))))) (now (exchanges .exit)) k × (map callOf (now (exchanges .exit)) ≡ map callOf (now (exchanges .entry)))) (λ e. (startRefusal (T·Text .cells (now (text .entry))) ≡ Err e) × (now (exchanges .exit) ≡ now (exchanges .entry))) ⌝ }
+    ensures { λ r. ⌜ Cases r (λ k. Readable (T·Text .cells (now (text .entry))) × Law (codes (trimmed (T·Text .cells (now (text .entry))))) (now (exchanges .exit)) k × (map callOf (now (exchanges .exit)) ≡ map callOf (now (exchanges .entry)))) (λ e. (startRefusal (T·Text .cells (now (text .entry))) ≡ Err e) × (Readable (T·Text .cells (now (text .entry))) → ⊥) × (now (exchanges .exit) ≡ now (exchanges .entry))) ⌝ }
 {
     let mut reader = Reader::start(text)?;
     for i in 0..exchanges.len() {

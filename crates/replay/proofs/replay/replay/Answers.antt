@@ -1,3 +1,4 @@
+use borrow.Author.Needs.{needs}
 use mathlib.Core.Path.{_≡_, refl, sym, ap, subst, _∙_}
 use mathlib.Core.List.{[]}
 use native.Mathlib.Omega.{arith}
@@ -9,6 +10,7 @@ use Rattle.texts.proofs.Trimming.{trimmed-clean}
 use Rattle.reader.specs.Steps.{shown}
 use Rattle.replay.specs.Runs.{Runs, none, Stands}
 use Rattle.replay.proofs.Made.{Makes, runs-further, calls-same}
+use Rattle.replay.proofs.Starting.{accepted-readable, refused-unreadable}
 use Rattle.replay.proofs.Reading.{spelt, reads, one}
 use Rattle.replay.proofs.Joining.{joins}
 use Rattle.replay.proofs.replay.replay.Needs as need
@@ -45,7 +47,7 @@ returns g c =
     let all : take (c .loop-i .i) xs ≡ xs = take-all (c .loop-i .i) xs (omega (arith, c .loop-i-test .left, c .loop-i .kept .exchanges)) in
     let k : r .k ≡ c .count .result = sym (c .count .ensures) in
     let clean = trimmed-clean cells in (
-      c .in-Continue-reader .ensures tt .0,
+      accepted-readable cells (c .in-Continue-reader .ensures tt .0),
       record {
         runs = subst (Runs t 0 xs) k (subst (λ l. Runs t 0 l (r .k)) all (c .loop-i .inv .2));
         spelt = spelt t (c .count .result) (subst (λ n. Stands t n (r .place)) k (c .loop-i .inv .1) .1);
@@ -56,3 +58,8 @@ returns g c =
       },
       c .loop-i .inv .3,
     )
+
+pub returns-in-Break-reader : need.returns-in-Break-reader
+returns-in-Break-reader g c =
+    let refused = refused-unreadable (g .T·Text .cells (c .args .text .now)) in
+    search (needs, refused)
