@@ -15,7 +15,9 @@ use Rattle.grammar.specs.Form.{between}
 use Rattle.grammar.specs.Along.{queries}
 use Rattle.grammar.specs.Readings.{Turns, Reading, spelling, moved-turn, moved-turns, behind-comma, Joinable}
 use Rattle.grammar.proofs.Moved.{query-spells, query-joins}
-use Rattle.replay.specs.Law.{QueryTurn, joined, queryOf, queriesOf, Bare, moved, Follow, Joins}
+use Rattle.replay.specs.Queries.{QueryTurn, joined, queryOf, queriesOf, moved}
+use Rattle.replay.specs.Texts.{Bare}
+use Rattle.replay.specs.Law.{Follow, Joins}
 use Rattle.replay.proofs.Turning.{queries-append}
 
 -- a turn moved along, as a query; its separator may be another that says the same

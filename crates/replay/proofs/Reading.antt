@@ -16,7 +16,8 @@ use Rattle.reader.specs.Steps.{queryK, placeOf}
 use Rattle.reader.proofs.Stepping.{next-end}
 use Rattle.reader.proofs.Places.{place-fits, place-next}
 use Rattle.replay.specs.Runs.{Does, gives, ends, Runs, none, more, Begun}
-use Rattle.replay.specs.Law.{QueryTurn, queryOf, queriesOf, Spelt, giving, ending, Reads, Once}
+use Rattle.replay.specs.Queries.{QueryTurn, queryOf, queriesOf}
+use Rattle.replay.specs.Law.{Spelt, giving, ending, Reads, Once}
 use Rattle.replay.proofs.Made.{runs-more}
 use Rattle.replay.proofs.Turning.{begun, turn-fits, turn-long, turn-query, query-turn, queries-append}
 

@@ -13,7 +13,7 @@ use Rattle.texts.specs.Codes.{codes}
 use Rattle.reader.specs.declared.refusal.Refusal.{Refusal}
 use Rattle.reader.specs.Utf8.{illFormed}
 use Rattle.reader.specs.Start.{badFrom, badRefusal, illRefusal, andThen, startRefusal}
-use Rattle.replay.specs.Law.{AllBytes, Readable}
+use Rattle.replay.specs.Texts.{AllBytes, Readable}
 
 bytes-pass : (cells : List Cell) (place : ℕ) → AllBytes cells → badFrom cells place ≡ Ok tt
 bytes-pass [] place h = refl

@@ -17,7 +17,7 @@ use Rattle.grammar.specs.Along.{queries}
 use Rattle.grammar.specs.Readings.{Turn, Between, Turns, spelling}
 use Rattle.grammar.proofs.Queries.{query-fits, separator-fits}
 use Rattle.reader.specs.Steps.{found, queryAt, atFirst, behind, queryK}
-use Rattle.replay.specs.Law.{QueryTurn, joined, queryOf, queriesOf}
+use Rattle.replay.specs.Queries.{QueryTurn, joined, queryOf, queriesOf}
 
 -- whether behind k queries a separator comes first
 abbrev pub begun : ℕ → Bool

@@ -1,60 +1,26 @@
 -- The law of a reader, undivided.
 use mathlib.Core.Path.{_≡_}
-use mathlib.Core.Bool.{Bool, false}
+use mathlib.Core.Bool.{false}
 use mathlib.Core.List.{List, [], _∷_, _++_, map}
 use Prim.Native.Nat.{ℕ, _+_, _<_}
 use lib.ListN.{length, drop}
-use Rattle.std.specs.declared.option.Option.{Option}
-use Rattle.std.specs.declared.option.Option.the-variants.{Some, None}
+use Rattle.std.specs.declared.result.Result.the-variants.{Err}
 use Rattle.texts.specs.declared.cell.Cell.{Cell}
-use Rattle.texts.specs.declared.cell.Cell.the-variants.{Byte, Bad}
 use Rattle.texts.specs.Codes.{codes}
-use Rattle.texts.specs.Spaces.{inFront, behind}
+use Rattle.texts.specs.Trim.{trimmed}
 use Rattle.grammar.specs.declared.query.SingleQuery.{SingleQuery}
-use Rattle.grammar.specs.Form.{Value, query}
-use Rattle.grammar.specs.Along.{span-along, atom-along, queries}
-use Rattle.grammar.specs.Readings.{Turn, Turns, Reading, spelling}
-use Rattle.reader.specs.Utf8.{illFormed}
+use Rattle.grammar.specs.Along.{queries}
+use Rattle.grammar.specs.Readings.{Turns, Reading, spelling}
+use Rattle.reader.specs.declared.refusal.Refusal.{Refusal}
+use Rattle.reader.specs.Start.{startRefusal}
 use Rattle.reader.specs.Steps.{placeOf}
 use Rattle.replay.specs.declared.calls.Call.the-variants.{Step}
 use Rattle.replay.specs.declared.calls.Answer.the-variants.{Given, End}
 use Rattle.replay.specs.declared.calls.Exchange.{Exchange}
+use Rattle.replay.specs.Calls.{callOf}
+use Rattle.replay.specs.Queries.{QueryTurn, queriesOf, moved}
 use Rattle.replay.specs.Runs.{Runs}
-
--- no cell is bad
-abbrev pub AllBytes : List Cell → Type 0
-AllBytes [] = Unit {0}
-AllBytes (Byte b ∷ cells) = AllBytes cells
-AllBytes (Bad fault ∷ cells) = ⊥
-
--- a text that a reading can start on
-pub record Readable (cells : List Cell) : Type 0 where
-  pub bytes : AllBytes cells
-  -- no sequence is ill-formed
-  pub formed : illFormed (codes cells) ≡ None
-
--- a query of a reading with the separator before it
-abbrev pub QueryTurn : Type 0
-QueryTurn = Turn (Value query) Bool
-
--- whether a query is joined to the one before by `and`; the first is not
-abbrev pub joined : Option Bool → Bool
-joined None = false
-joined (Some and) = and
-
--- a turn that begins at p, as the query that a reader gives
-abbrev pub queryOf : ℕ → QueryTurn → SingleQuery
-queryOf p u = record {
-  raw = record { start = p + length (u .sep); end = p + length (u .sep) + length (u .raw) };
-  atom = u .value .1;
-  negated = u .value .0;
-  «is_and» = joined (u .link);
-}
-
--- turns of which the first begins at p, as queries
-abbrev pub queriesOf : ℕ → List QueryTurn → List SingleQuery
-queriesOf p [] = []
-queriesOf p (u ∷ us) = queryOf p u ∷ queriesOf (p + length (u .sep) + length (u .raw)) us
+use Rattle.replay.specs.Texts.{Readable, Bare}
 
 -- a step that gives a query
 abbrev pub giving : SingleQuery → Exchange
@@ -89,15 +55,6 @@ Reads t =
 abbrev pub Once : List ℕ → Type 0
 Once t = (us vs : List QueryTurn) → Reading queries t us → Reading queries t vs → us ≡ vs
 
--- no white space at either end
-pub record Bare (t : List ℕ) : Type 0 where
-  pub front : inFront t ≡ 0
-  pub back : behind t ≡ 0
-
--- a query whose places are moved along by n
-abbrev pub moved : ℕ → SingleQuery → SingleQuery
-moved n q = record { raw = span-along n (q .raw); atom = atom-along n (q .atom); negated = q .negated; «is_and» = q .«is_and» }
-
 -- the queries of ws are those of us and then those of vs, moved along by n
 abbrev pub Follow : ℕ → List QueryTurn → List QueryTurn → List QueryTurn → Type 0
 Follow n us vs ws = queriesOf 0 ws ≡ queriesOf 0 us ++ map (moved n) (queriesOf 0 vs)
@@ -116,3 +73,15 @@ pub record Law (t : List ℕ) (xs : List Exchange) (k : ℕ) : Type 0 where
   pub one : Once t
   pub bare : Bare t
   pub joins : (a b : List ℕ) → Bare a → Bare b → 0 < length a → 0 < length b → Joins a b
+
+-- start accepted the text, and the calls were made on a reader of its trim
+pub record Replayed (cells : List Cell) (before after : List Exchange) (k : ℕ) : Type 0 where
+  pub readable : Readable cells
+  pub law : Law (codes (trimmed cells)) after k
+  pub calls : map callOf after ≡ map callOf before
+
+-- start refused the text, on which no reading can start, and no call was made
+pub record Unread (cells : List Cell) (before after : List Exchange) (e : Refusal) : Type 0 where
+  pub refused : startRefusal cells ≡ Err e
+  pub unreadable : Readable cells → ⊥
+  pub same : after ≡ before

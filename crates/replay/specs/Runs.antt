@@ -40,3 +40,7 @@ Begun t (suc k) = Begun t k × (q : SingleQuery) × (queryK t k (placeOf t k) �
 -- a reader of t that start and calls made may have k queries before the place p
 abbrev pub Stands : List ℕ → ℕ → ℕ → Type 0
 Stands t k p = (p ≡ placeOf t k) × Begun t k
+
+-- a reader of t that stands behind k queries at p answers the call with r, and then stands behind m at q
+abbrev pub Asked : List ℕ → ℕ → ℕ → Call → Answer → ℕ → ℕ → Type 0
+Asked t k p c r m q = Stands t k p → Does t k c r m × Stands t m q

@@ -1,17 +1,12 @@
 // A list of calls on one reader.
 ghost use mathlib.Core.Path.{_≡_};
-ghost use mathlib.Core.List.{map};
 ghost use Prim.Native.Nat.{ℕ};
 ghost use denote.Ref.{now};
 ghost use Rattle.std.specs.Results.{Cases};
-ghost use Rattle.std.specs.declared.result.Result.the-variants.{Err};
-ghost use Rattle.texts.specs.Codes.{codes};
-ghost use Rattle.texts.specs.Trim.{trimmed};
-ghost use Rattle.reader.specs.Start.{startRefusal};
 ghost use Rattle.reader.specs.Steps.{shown};
-ghost use Rattle.replay.specs.Calls.{callOf, stepTold, backTold};
-ghost use Rattle.replay.specs.Runs.{Does, Stands};
-ghost use Rattle.replay.specs.Law.{Law, Readable};
+ghost use Rattle.replay.specs.Calls.{stepTold, backTold};
+ghost use Rattle.replay.specs.Runs.{Asked};
+ghost use Rattle.replay.specs.Law.{Replayed, Unread};
 use crate::calls::Answer;
 use crate::calls::Call;
 use crate::calls::Exchange;
@@ -44,7 +39,7 @@ fn back_told(result: Result<(), Refusal>) -> Answer
 // One call.
 pub fn ask<T: Text>(reader: &mut Reader<T>, call: Call) -> Answer
     ensures same { λ r. ⌜ now (reader .exit) .text ≡ now (reader .entry) .text ⌝ }
-    ensures does { λ r. ⌜ (Stands (shown (now (reader .entry) .text .start) (now (reader .entry) .text .end) (T·Text .cells (now (now (reader .entry) .text .inner)))) (now (reader .entry) .k) (now (reader .entry) .place) → Does (shown (now (reader .entry) .text .start) (now (reader .entry) .text .end) (T·Text .cells (now (now (reader .entry) .text .inner)))) (now (reader .entry) .k) call r (now (reader .exit) .k) × Stands (shown (now (reader .entry) .text .start) (now (reader .entry) .text .end) (T·Text .cells (now (now (reader .entry) .text .inner)))) (now (reader .exit) .k) (now (reader .exit) .place)) ⌝ }
+    ensures does { λ r. ⌜ Asked (shown (now (reader .entry) .text .start) (now (reader .entry) .text .end) (T·Text .cells (now (now (reader .entry) .text .inner)))) (now (reader .entry) .k) (now (reader .entry) .place) call r (now (reader .exit) .k) (now (reader .exit) .place) ⌝ }
 {
     match call {
         Call::Step => step_told(reader.step()),
@@ -60,7 +55,7 @@ pub fn ask<T: Text>(reader: &mut Reader<T>, call: Call) -> Answer
 // Starts a reader over a text, makes every call in order, and puts each answer beside its call.
 // Answers how many queries then stand before the place. Where start refuses, every exchange stays as it was.
 pub fn replay<T: Text>(text: &T, exchanges: &mut [Exchange]) -> Result<usize, Refusal>
-    ensures { λ r. ⌜ Cases r (λ k. Readable (T·Text .cells (now (text .entry))) × Law (codes (trimmed (T·Text .cells (now (text .entry))))) (now (exchanges .exit)) k × (map callOf (now (exchanges .exit)) ≡ map callOf (now (exchanges .entry)))) (λ e. (startRefusal (T·Text .cells (now (text .entry))) ≡ Err e) × (Readable (T·Text .cells (now (text .entry))) → ⊥) × (now (exchanges .exit) ≡ now (exchanges .entry))) ⌝ }
+    ensures { λ r. ⌜ Cases r (Replayed (T·Text .cells (now (text .entry))) (now (exchanges .entry)) (now (exchanges .exit))) (Unread (T·Text .cells (now (text .entry))) (now (exchanges .entry)) (now (exchanges .exit))) ⌝ }
 {
     let mut reader = Reader::start(text)?;
     for i in 0..exchanges.len() {

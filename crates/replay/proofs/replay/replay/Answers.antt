@@ -46,18 +46,19 @@ returns g c =
     let r = c .loop-i .reader in
     let all : take (c .loop-i .i) xs ≡ xs = take-all (c .loop-i .i) xs (omega (arith, c .loop-i-test .left, c .loop-i .kept .exchanges)) in
     let k : r .k ≡ c .count .result = sym (c .count .ensures) in
-    let clean = trimmed-clean cells in (
-      accepted-readable cells (c .in-Continue-reader .ensures tt .0),
-      record {
+    let clean = trimmed-clean cells in
+    record {
+      readable = accepted-readable cells (c .in-Continue-reader .ensures tt .0);
+      law = record {
         runs = subst (Runs t 0 xs) k (subst (λ l. Runs t 0 l (r .k)) all (c .loop-i .inv .2));
         spelt = spelt t (c .count .result) (subst (λ n. Stands t n (r .place)) k (c .loop-i .inv .1) .1);
         reads = reads t;
         one = one t;
         bare = record { front = clean .front; back = clean .back };
         joins = joins;
-      },
-      c .loop-i .inv .3,
-    )
+      };
+      calls = c .loop-i .inv .3;
+    }
 
 pub returns-in-Break-reader : need.returns-in-Break-reader
 returns-in-Break-reader g c =
