@@ -1,4 +1,5 @@
 pub mod Joining
+pub mod Joints
 pub mod Made
 pub mod Reading
 pub mod Starting

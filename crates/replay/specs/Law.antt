@@ -7,7 +7,7 @@ use lib.ListN.{length, drop}
 use Rattle.std.specs.declared.result.Result.the-variants.{Err}
 use Rattle.texts.specs.declared.cell.Cell.{Cell}
 use Rattle.texts.specs.Codes.{codes}
-use Rattle.texts.specs.Trim.{trimmed}
+use Rattle.texts.specs.Trim.{trimmed, Clean}
 use Rattle.grammar.specs.declared.query.SingleQuery.{SingleQuery}
 use Rattle.grammar.specs.Along.{queries}
 use Rattle.grammar.specs.Readings.{Turns, Reading, spelling}
@@ -20,7 +20,7 @@ use Rattle.replay.specs.declared.calls.Exchange.{Exchange}
 use Rattle.replay.specs.Calls.{callOf}
 use Rattle.replay.specs.Queries.{QueryTurn, queriesOf, moved}
 use Rattle.replay.specs.Runs.{Runs}
-use Rattle.replay.specs.Texts.{Readable, Bare}
+use Rattle.replay.specs.Texts.{Readable, joint}
 
 -- a step that gives a query
 abbrev pub giving : SingleQuery → Exchange
@@ -59,25 +59,32 @@ Once t = (us vs : List QueryTurn) → Reading queries t us → Reading queries t
 abbrev pub Follow : ℕ → List QueryTurn → List QueryTurn → List QueryTurn → Type 0
 Follow n us vs ws = queriesOf 0 ws ≡ queriesOf 0 us ++ map (moved n) (queriesOf 0 vs)
 
--- a and b with a comma between have a reading exactly when both have, and its queries are theirs
-abbrev pub Joins : List ℕ → List ℕ → Type 0
-Joins a b =
-    ((us vs : List QueryTurn) → Reading queries a us → Reading queries b vs → (ws : List QueryTurn) × Reading queries (a ++ 44 ∷ b) ws × Follow (length a + 1) us vs ws)
-    × ((ws : List QueryTurn) → Reading queries (a ++ 44 ∷ b) ws → (us : List QueryTurn) × (vs : List QueryTurn) × Reading queries a us × Reading queries b vs × Follow (length a + 1) us vs ws)
+-- a text that a reading can start on, and its reading
+pub record Holds (cells : List Cell) (us : List QueryTurn) : Type 0 where
+  pub readable : Readable cells
+  pub reading : Reading queries (codes cells) us
 
--- a reader of t has made the exchanges xs and has k queries before its place
-pub record Law (t : List ℕ) (xs : List Exchange) (k : ℕ) : Type 0 where
-  pub runs : Runs t 0 xs k
-  pub spelt : Spelt t k
-  pub reads : Reads t
-  pub one : Once t
-  pub bare : Bare t
-  pub joins : (a b : List ℕ) → Bare a → Bare b → 0 < length a → 0 < length b → Joins a b
+-- a and b with a comma between have a reading exactly when both have, and its queries are theirs
+pub record Joins (a b : List Cell) : Type 0 where
+  -- no white space at the ends of the join either, so that a reader reads all of it
+  pub clean : Clean (joint a b)
+  pub both : (us vs : List QueryTurn) → Holds a us → Holds b vs → (ws : List QueryTurn) × Holds (joint a b) ws × Follow (length a + 1) us vs ws
+  pub apart : (ws : List QueryTurn) → Holds (joint a b) ws → (us : List QueryTurn) × (vs : List QueryTurn) × Holds a us × Holds b vs × Follow (length a + 1) us vs ws
+
+-- a reader of trimmed cells has made the exchanges xs and has k queries before its place
+pub record Law (cells : List Cell) (xs : List Exchange) (k : ℕ) : Type 0 where
+  pub runs : Runs (codes cells) 0 xs k
+  pub spelt : Spelt (codes cells) k
+  pub reads : Reads (codes cells)
+  pub one : Once (codes cells)
+  pub clean : Clean cells
+  -- of any two texts that are trimmed and not empty
+  pub joins : (a b : List Cell) → Clean a → Clean b → 0 < length a → 0 < length b → Joins a b
 
 -- start accepted the text, and the calls were made on a reader of its trim
 pub record Replayed (cells : List Cell) (before after : List Exchange) (k : ℕ) : Type 0 where
   pub readable : Readable cells
-  pub law : Law (codes (trimmed cells)) after k
+  pub law : Law (trimmed cells) after k
   pub calls : map callOf after ≡ map callOf before
 
 -- start refused the text, on which no reading can start, and no call was made

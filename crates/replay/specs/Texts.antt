@@ -1,12 +1,11 @@
--- Texts that a reading can start on, and texts without white space at their ends.
+-- Texts that a reading can start on, and the join of two texts.
 use mathlib.Core.Path.{_≡_}
-use mathlib.Core.List.{List, [], _∷_}
+use mathlib.Core.List.{List, [], _∷_, _++_}
 use Prim.Native.Nat.{ℕ}
 use Rattle.std.specs.declared.option.Option.the-variants.{None}
 use Rattle.texts.specs.declared.cell.Cell.{Cell}
 use Rattle.texts.specs.declared.cell.Cell.the-variants.{Byte, Bad}
 use Rattle.texts.specs.Codes.{codes}
-use Rattle.texts.specs.Spaces.{inFront, behind}
 use Rattle.reader.specs.Utf8.{illFormed}
 
 -- no cell is bad
@@ -21,7 +20,6 @@ pub record Readable (cells : List Cell) : Type 0 where
   -- no sequence is ill-formed
   pub formed : illFormed (codes cells) ≡ None
 
--- no white space at either end
-pub record Bare (t : List ℕ) : Type 0 where
-  pub front : inFront t ≡ 0
-  pub back : behind t ≡ 0
+-- two texts with a comma between
+abbrev pub joint : List Cell → List Cell → List Cell
+joint a b = a ++ Byte 44 ∷ b

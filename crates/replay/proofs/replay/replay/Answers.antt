@@ -46,7 +46,6 @@ returns g c =
     let r = c .loop-i .reader in
     let all : take (c .loop-i .i) xs ≡ xs = take-all (c .loop-i .i) xs (omega (arith, c .loop-i-test .left, c .loop-i .kept .exchanges)) in
     let k : r .k ≡ c .count .result = sym (c .count .ensures) in
-    let clean = trimmed-clean cells in
     record {
       readable = accepted-readable cells (c .in-Continue-reader .ensures tt .0);
       law = record {
@@ -54,7 +53,7 @@ returns g c =
         spelt = spelt t (c .count .result) (subst (λ n. Stands t n (r .place)) k (c .loop-i .inv .1) .1);
         reads = reads t;
         one = one t;
-        bare = record { front = clean .front; back = clean .back };
+        clean = trimmed-clean cells;
         joins = joins;
       };
       calls = c .loop-i .inv .3;
