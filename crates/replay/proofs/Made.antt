@@ -25,7 +25,7 @@ use Rattle.replay.specs.declared.calls.Answer.{Answer}
 use Rattle.replay.specs.declared.calls.Answer.the-variants.{Given, End, Refused, Moved, Anew, At}
 use Rattle.replay.specs.declared.calls.Exchange.{Exchange}
 use Rattle.replay.specs.Calls.{callOf, stepTold, backTold}
-use Rattle.replay.specs.Runs.{Does, gives, ends, lacks, backs, stays, restarts, tells, Runs, none, more, Begun, Stands}
+use Rattle.replay.specs.Runs.{Does, gives, ends, lacks, backs, stays, restarts, tells, Runs, none, more, Begun, Stands, Asked}
 
 -- no raw is empty
 begun-le : (t : List ℕ) (k : ℕ) → Begun t k → k ≤ placeOf t k
@@ -34,7 +34,7 @@ begun-le t (suc k) b =
     omega (arith, begun-le t k (b .0), next-end t k (placeOf t k) (b .1) (place-fits t k) (b .2) .0, place-next t k (b .1) (b .2))
 
 -- a call is answered so, and then the reader stands so
-abbrev pub Makes : List ℕ → ℕ → Call → Answer → ℕ → ℕ → Type 0
+abbrev Makes : List ℕ → ℕ → Call → Answer → ℕ → ℕ → Type 0
 Makes t k c r m q = Does t k c r m × Stands t m q
 
 -- a step that gives r
@@ -53,14 +53,14 @@ stepped-makes t k b =
     (λ e. (ends (omega (arith, place-fits t k, leb-true (length t) (placeOf t k) e)), (refl, b)))
     (λ e. answered-makes t k b (omega (arith, leb-false (length t) (placeOf t k) e)) (queryK t k (placeOf t k)) refl)
 
-pub makes-step : (t : List ℕ) (k p : ℕ) (r : Result the-step.Step Refusal) (m q : ℕ) → Stands t k p → r ≡ stepped t k p → m ≡ countAfter r k → q ≡ placeAfter r p → Makes t k Step (stepTold r) m q
+makes-step : (t : List ℕ) (k p : ℕ) (r : Result the-step.Step Refusal) (m q : ℕ) → Stands t k p → r ≡ stepped t k p → m ≡ countAfter r k → q ≡ placeAfter r p → Makes t k Step (stepTold r) m q
 makes-step t k p r m q st er em eq =
     let same : stepped t k (placeOf t k) ≡ r = ap (stepped t k) (sym (st .0)) ∙ sym er in
     let at : After t k r = subst (After t k) same (stepped-makes t k (st .1)) in
     let moved : q ≡ placeAfter r (placeOf t k) = eq ∙ ap (placeAfter r) (st .0) in
     subst (λ n. Makes t k Step (stepTold r) n q) (sym em) (subst (λ n. Makes t k Step (stepTold r) (countAfter r k) n) (sym moved) at)
 
-pub makes-back : (t : List ℕ) (k p : ℕ) (r : Result (Unit {0}) Refusal) (m q : ℕ) → Stands t k p → r ≡ backed k → m ≡ k - 1 → q ≡ placeBack t k p → Makes t k StepBack (backTold r) m q
+makes-back : (t : List ℕ) (k p : ℕ) (r : Result (Unit {0}) Refusal) (m q : ℕ) → Stands t k p → r ≡ backed k → m ≡ k - 1 → q ≡ placeBack t k p → Makes t k StepBack (backTold r) m q
 makes-back t zero p r m q st er em eq =
     subst (λ a. Makes t zero StepBack (backTold a) m q) (sym er) (subst (λ n. Makes t zero StepBack (Refused AtStart) n q) (sym em) (stays, (eq ∙ st .0, tt)))
 makes-back t (suc k) p r m q st er em eq =
@@ -68,15 +68,28 @@ makes-back t (suc k) p r m q st er em eq =
     let big : max (placeOf t k) k ≡ placeOf t k = omega (arith, begun-le t k (st .1 .0)) in
     subst (λ a. Makes t (suc k) StepBack (backTold a) m q) (sym er) (subst (λ n. Makes t (suc k) StepBack Moved n q) (sym (em ∙ less)) (backs, (eq ∙ big, st .1 .0)))
 
-pub makes-over : (t : List ℕ) (k m q : ℕ) → m ≡ 0 → q ≡ 0 → Makes t k StartOver Anew m q
+makes-over : (t : List ℕ) (k m q : ℕ) → m ≡ 0 → q ≡ 0 → Makes t k StartOver Anew m q
 makes-over t k m q em eq = subst (λ n. Makes t k StartOver Anew n q) (sym em) (restarts, (eq, tt))
 
-pub makes-place : (t : List ℕ) (k p r : ℕ) → Stands t k p → r ≡ p → Makes t k Place (At r) k p
+makes-place : (t : List ℕ) (k p r : ℕ) → Stands t k p → r ≡ p → Makes t k Place (At r) k p
 makes-place t k p r st er = (tells (sym (er ∙ st .0)), st)
 
--- the same of an equal call and an equal answer
-pub makes-as : (t : List ℕ) (k : ℕ) (c d : Call) (r s : Answer) (m q : ℕ) → d ≡ c → s ≡ r → Makes t k c r m q → Makes t k d s m q
-makes-as t k c d r s m q ec er h = subst (λ x. Makes t k x s m q) (sym ec) (subst (λ x. Makes t k c x m q) (sym er) h)
+asked : {t : List ℕ} {k p : ℕ} {c d : Call} {r : Answer} {m q : ℕ} → d ≡ c → (Stands t k p → Makes t k c r m q) → Asked t k p d r m q
+asked {t} {k} {p} {c} {d} {r} {m} {q} e h = record { does = λ st. subst (λ x. Does t k x r m) (sym e) (h st .0); stands = λ st. h st .1 }
+
+pub asked-step : {t : List ℕ} {k p : ℕ} {c : Call} {r : Result the-step.Step Refusal} {a : Answer} {m q : ℕ} → c ≡ Step → a ≡ stepTold r → r ≡ stepped t k p → m ≡ countAfter r k → q ≡ placeAfter r p → Asked t k p c a m q
+asked-step {t} {k} {p} {c} {r} {a} {m} {q} ec ea er em eq =
+    asked ec (λ st. subst (λ x. Makes t k Step x m q) (sym ea) (makes-step t k p r m q st er em eq))
+
+pub asked-back : {t : List ℕ} {k p : ℕ} {c : Call} {r : Result (Unit {0}) Refusal} {a : Answer} {m q : ℕ} → c ≡ StepBack → a ≡ backTold r → r ≡ backed k → m ≡ k - 1 → q ≡ placeBack t k p → Asked t k p c a m q
+asked-back {t} {k} {p} {c} {r} {a} {m} {q} ec ea er em eq =
+    asked ec (λ st. subst (λ x. Makes t k StepBack x m q) (sym ea) (makes-back t k p r m q st er em eq))
+
+pub asked-over : {t : List ℕ} {k p : ℕ} {c : Call} {m q : ℕ} → c ≡ StartOver → m ≡ 0 → q ≡ 0 → Asked t k p c Anew m q
+asked-over {t} {k} {p} {c} {m} {q} ec em eq = asked ec (λ st. makes-over t k m q em eq)
+
+pub asked-place : {t : List ℕ} {k p : ℕ} {c : Call} {r : ℕ} → c ≡ Place → r ≡ p → Asked t k p c (At r) k p
+asked-place {t} {k} {p} {c} {r} ec er = asked ec (λ st. makes-place t k p r st er)
 
 -- one exchange more
 pub runs-more : {t : List ℕ} {k m n : ℕ} {xs : List Exchange} {x : Exchange} → Runs t k xs m → Does t m (x .call) (x .answer) n → Runs t k (xs ++ x ∷ []) n

@@ -42,5 +42,6 @@ abbrev pub Stands : List ℕ → ℕ → ℕ → Type 0
 Stands t k p = (p ≡ placeOf t k) × Begun t k
 
 -- a reader of t that stands behind k queries at p answers the call with r, and then stands behind m at q
-abbrev pub Asked : List ℕ → ℕ → ℕ → Call → Answer → ℕ → ℕ → Type 0
-Asked t k p c r m q = Stands t k p → Does t k c r m × Stands t m q
+pub record Asked (t : List ℕ) (k p : ℕ) (c : Call) (r : Answer) (m q : ℕ) : Type 0 where
+  pub does : Stands t k p → Does t k c r m
+  pub stands : Stands t k p → Stands t m q

@@ -39,7 +39,7 @@ fn back_told(result: Result<(), Refusal>) -> Answer
 // One call.
 pub fn ask<T: Text>(reader: &mut Reader<T>, call: Call) -> Answer
     ensures same { λ r. ⌜ now (reader .exit) .text ≡ now (reader .entry) .text ⌝ }
-    ensures does { λ r. ⌜ Asked (shown (now (reader .entry) .text .start) (now (reader .entry) .text .end) (T·Text .cells (now (now (reader .entry) .text .inner)))) (now (reader .entry) .k) (now (reader .entry) .place) call r (now (reader .exit) .k) (now (reader .exit) .place) ⌝ }
+    ensures asked { λ r. ⌜ Asked (shown (now (reader .entry) .text .start) (now (reader .entry) .text .end) (T·Text .cells (now (now (reader .entry) .text .inner)))) (now (reader .entry) .k) (now (reader .entry) .place) call r (now (reader .exit) .k) (now (reader .exit) .place) ⌝ }
 {
     match call {
         Call::Step => step_told(reader.step()),

@@ -8,8 +8,8 @@ use Rattle.texts.specs.Codes.{codes}
 use Rattle.texts.specs.Trim.{trimmed}
 use Rattle.texts.proofs.Trimming.{trimmed-clean}
 use Rattle.reader.specs.Steps.{shown}
-use Rattle.replay.specs.Runs.{Runs, none, Stands}
-use Rattle.replay.proofs.Made.{Makes, runs-further, calls-same}
+use Rattle.replay.specs.Runs.{Runs, none, Stands, Asked}
+use Rattle.replay.proofs.Made.{runs-further, calls-same}
 use Rattle.replay.proofs.Starting.{accepted-readable, refused-unreadable}
 use Rattle.replay.proofs.Reading.{spelt, reads, one}
 use Rattle.replay.proofs.Joining.{joins}
@@ -30,11 +30,11 @@ loop-i-again g c =
     let q = c .ask-answer .last .reader in
     let call = getD xs i (c .index-exchanges-i .result) .call in
     let same = c .loop-i .inv .0 in
-    let made : Makes t (r .k) call (c .ask-answer .result) (q .k) (q .place) =
-    subst (λ l. Stands l (r .k) (r .place) → Makes l (r .k) call (c .ask-answer .result) (q .k) (q .place)) same (c .ask-answer .ensures .does) (c .loop-i .inv .1) in (
+    let made : Asked t (r .k) (r .place) call (c .ask-answer .result) (q .k) (q .place) =
+    subst (λ l. Asked l (r .k) (r .place) call (c .ask-answer .result) (q .k) (q .place)) same (c .ask-answer .ensures .asked) in (
       ap (λ x. shown (x .start) (x .end) (g .T·Text .cells (x .inner .now))) (c .ask-answer .ensures .same) ∙ same,
-      made .1,
-      runs-further t xs i (r .k) (q .k) (record { call = call; answer = c .ask-answer .result }) (omega (arith, c .loop-i-test .taken, c .loop-i .kept .exchanges)) (c .loop-i .inv .2) (made .0),
+      made .stands (c .loop-i .inv .1),
+      runs-further t xs i (r .k) (q .k) (record { call = call; answer = c .ask-answer .result }) (omega (arith, c .loop-i-test .taken, c .loop-i .kept .exchanges)) (c .loop-i .inv .2) (made .does (c .loop-i .inv .1)),
       calls-same xs i (c .index-exchanges-i .result) (record { call = call; answer = c .ask-answer .result }) refl ∙ c .loop-i .inv .3,
     )
 
