@@ -1,4 +1,5 @@
 pub mod BadCells
+pub mod Places
 pub mod Samples
 pub mod Sequences
 pub mod Stepping

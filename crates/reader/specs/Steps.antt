@@ -1,7 +1,7 @@
 -- The queries of a text by their number, and what a step of a reader answers.
 use mathlib.Core.Bool.{Bool, true, false, cond}
 use mathlib.Core.List.{List}
-use Prim.Native.Nat.{ℕ, zero, suc, _+_}
+use Prim.Native.Nat.{ℕ, zero, suc, _+_, max}
 use lib.Dec.{leb}
 use lib.ListN.{length}
 use Rattle.std.specs.declared.option.Option.{Option}
@@ -16,7 +16,7 @@ use Rattle.texts.specs.declared.cell.Cell.{Cell}
 use Rattle.texts.specs.Codes.{codes}
 use Rattle.texts.specs.Trim.{between}
 use Rattle.reader.specs.declared.refusal.Refusal.{Refusal}
-use Rattle.reader.specs.declared.refusal.Refusal.the-variants.{NoReading}
+use Rattle.reader.specs.declared.refusal.Refusal.the-variants.{NoReading, AtStart}
 use Rattle.reader.specs.declared.step.Step.{Step}
 use Rattle.reader.specs.declared.step.Step.the-variants.{Given, End}
 
@@ -68,3 +68,18 @@ countAfter (Err r) k = k
 -- the codes of the cells from one place up to another
 abbrev pub shown : ℕ → ℕ → List Cell → List ℕ
 shown start end cells = codes (between start end cells)
+
+-- the end of raw k − 1, or 0; where a query is missing it stays at the one before
+abbrev pub placeOf : List ℕ → ℕ → ℕ
+placeOf t zero = 0
+placeOf t (suc k) = placeAfter (answered (queryK t k (placeOf t k))) (placeOf t k)
+
+-- what a step back answers behind k queries
+abbrev pub backed : ℕ → Result (Unit {0}) Refusal
+backed zero = Err AtStart
+backed (suc k) = Ok tt
+
+-- the place behind a step back from p behind k queries: the end of raw k − 2, which is k − 1 at least, since no raw is empty
+abbrev pub placeBack : List ℕ → ℕ → ℕ → ℕ
+placeBack t zero p = p
+placeBack t (suc k) p = max (placeOf t k) k

@@ -1,17 +1,18 @@
 // The reader: it stands behind k queries of the trim of a text.
 ghost use mathlib.Core.Path.{_≡_};
-ghost use Prim.Native.Nat.{ℕ, _≤_};
+ghost use Prim.Native.Nat.{ℕ, _-_, _≤_};
 ghost use denote.Ref.{now};
 ghost use Rattle.std.specs.Results.{Cases};
 ghost use Rattle.std.specs.declared.result.Result.the-variants.{Ok, Err};
 ghost use Rattle.texts.specs.Codes.{codes};
 ghost use Rattle.texts.specs.Trim.{trimmed};
 ghost use Rattle.reader.specs.Start.{startRefusal};
-ghost use Rattle.reader.specs.Steps.{shown, stepped, countAfter, placeAfter};
+ghost use Rattle.reader.specs.Steps.{shown, stepped, countAfter, placeAfter, backed, placeBack};
 use crate::refusal::Refusal;
 use crate::start::accepts;
 use crate::step::Step;
 use crate::step::next_query;
+use crate::step::place_of;
 use texts::text::RefText;
 use texts::text::Text;
 use texts::trim::Trim;
@@ -57,6 +58,41 @@ impl<'a, T: Text> Reader<'a, T> {
             }
             Err(place) => Err(Refusal::NoReading { place }),
         }
+    }
+
+    // One query back, found from the start again; at the start a refusal, which leaves the reader as it was.
+    pub fn step_back(&mut self) -> Result<(), Refusal>
+        ensures same { λ r. ⌜ now (self .exit) .text ≡ now (self .entry) .text ⌝ }
+        ensures value { λ r. ⌜ r ≡ backed (now (self .entry) .k) ⌝ }
+        ensures count { λ r. ⌜ now (self .exit) .k ≡ now (self .entry) .k - 1 ⌝ }
+        ensures after { λ r. ⌜ now (self .exit) .place ≡ placeBack (shown (now (self .entry) .text .start) (now (self .entry) .text .end) (T·Text .cells (now (now (self .entry) .text .inner)))) (now (self .entry) .k) (now (self .entry) .place) ⌝ }
+    {
+        if self.k == 0 {
+            return Err(Refusal::AtStart);
+        }
+        let k = self.k - 1;
+        // No raw is empty, so that the end of k raws is k at least, as the reader's bounds say.
+        let place = place_of(&self.text, k).max(k);
+        self.k = k;
+        self.place = place;
+        Ok(())
+    }
+
+    // Stands before the first query again.
+    pub fn start_over(&mut self)
+        ensures same { λ r. ⌜ now (self .exit) .text ≡ now (self .entry) .text ⌝ }
+        ensures count { λ r. ⌜ now (self .exit) .k ≡ 0 ⌝ }
+        ensures after { λ r. ⌜ now (self .exit) .place ≡ 0 ⌝ }
+    {
+        self.k = 0;
+        self.place = 0;
+    }
+
+    // How many queries stand before the place.
+    pub fn count(&self) -> usize
+        ensures { λ r. ⌜ r ≡ now (self .entry) .k ⌝ }
+    {
+        self.k
     }
 
     // The end of the last raw given, or 0.

@@ -12,6 +12,8 @@ pub enum Refusal {
     BadCell { place: usize, fault: Fault },
     IllFormed { place: usize },
     NoReading { place: usize },
+    // There is no query to step back over.
+    AtStart,
 }
 
 impl Refusal {
@@ -22,6 +24,7 @@ impl Refusal {
             Refusal::BadCell { place: _, fault: _ } => 1,
             Refusal::IllFormed { place: _ } => 2,
             Refusal::NoReading { place: _ } => 3,
+            Refusal::AtStart => 5,
         }
     }
 
@@ -32,6 +35,7 @@ impl Refusal {
             Refusal::BadCell { place, fault: _ } => place,
             Refusal::IllFormed { place } => place,
             Refusal::NoReading { place } => place,
+            Refusal::AtStart => 0,
         }
     }
 }

@@ -1,7 +1,7 @@
 // The answer of a step, and the query behind those that were given.
 ghost use mathlib.Core.Path.{_≡_};
 ghost use Rattle.texts.specs.Codes.{codes};
-ghost use Rattle.reader.specs.Steps.{queryAt, queryK};
+ghost use Rattle.reader.specs.Steps.{queryAt, queryK, answered, placeAfter, placeOf};
 use grammar::query::SingleQuery;
 use grammar::query::Span;
 use parser::query::parse_composition_operator;
@@ -59,4 +59,25 @@ pub fn next_query<T: Text>(text: &T, k: usize, place: usize) -> Result<SingleQue
     } else {
         later_query(text, place)
     }
+}
+
+// The end of raw k, where the raw before it ends at a place; that place where the query is missing.
+fn raw_end<T: Text>(text: &T, k: usize, place: usize) -> usize
+    ensures { λ r. ⌜ r ≡ placeAfter (answered (queryK (codes (T·Text .cells (now (text .entry)))) k place)) place ⌝ }
+{
+    match next_query(text, k, place) {
+        Ok(query) => query.raw.end,
+        Err(_) => place,
+    }
+}
+
+// The end of raw k - 1, or 0, found from the start.
+pub fn place_of<T: Text>(text: &T, k: usize) -> usize
+    ensures { λ r. ⌜ r ≡ placeOf (codes (T·Text .cells (now (text .entry)))) k ⌝ }
+{
+    let mut place = 0;
+    for i in 0..k {
+        place = raw_end(text, i, place);
+    }
+    place
 }

@@ -1,0 +1,94 @@
+-- The law of a reader, undivided.
+use mathlib.Core.Path.{_≡_}
+use mathlib.Core.Bool.{false}
+use mathlib.Core.List.{List, [], _∷_, _++_, map}
+use Prim.Native.Nat.{ℕ, _+_, _<_}
+use lib.ListN.{length, drop}
+use Rattle.std.specs.declared.result.Result.the-variants.{Err}
+use Rattle.texts.specs.declared.cell.Cell.{Cell}
+use Rattle.texts.specs.Codes.{codes}
+use Rattle.texts.specs.Trim.{trimmed, Clean}
+use Rattle.grammar.specs.declared.query.SingleQuery.{SingleQuery}
+use Rattle.grammar.specs.Along.{queries}
+use Rattle.grammar.specs.Readings.{Turns, Reading, spelling}
+use Rattle.reader.specs.declared.refusal.Refusal.{Refusal}
+use Rattle.reader.specs.Start.{startRefusal}
+use Rattle.reader.specs.Steps.{placeOf}
+use Rattle.replay.specs.declared.calls.Call.the-variants.{Step}
+use Rattle.replay.specs.declared.calls.Answer.the-variants.{Given, End}
+use Rattle.replay.specs.declared.calls.Exchange.{Exchange}
+use Rattle.replay.specs.Calls.{callOf}
+use Rattle.replay.specs.Queries.{QueryTurn, queriesOf, moved}
+use Rattle.replay.specs.Runs.{Runs}
+use Rattle.replay.specs.Texts.{Readable, joint}
+
+-- a step that gives a query
+abbrev pub giving : SingleQuery → Exchange
+giving q = record { call = Step; answer = Given q }
+
+-- a step that finds no query left
+abbrev pub ending : Exchange
+ending = record { call = Step; answer = End }
+
+-- the k queries before the place
+pub record Spelt (t : List ℕ) (k : ℕ) : Type 0 where
+  pub turns : List QueryTurn
+  pub count : length turns ≡ k
+  -- each is the one that the grammar gives at its place, with the separator before it
+  pub stand : Turns queries false t 0 turns (placeOf t k)
+  -- raws, separators and the unread rest spell the text
+  pub spell : spelling turns ++ drop (placeOf t k) t ≡ t
+  -- k steps from the start give them
+  pub given : Runs t 0 (map giving (queriesOf 0 turns)) k
+
+-- stepping from the start gives these queries and then "end"
+abbrev pub Stepping : List ℕ → List SingleQuery → Type 0
+Stepping t qs = Runs t 0 (map giving qs ++ ending ∷ []) (length qs)
+
+-- stepping reaches "end" exactly when there is a reading, and gives its queries
+abbrev pub Reads : List ℕ → Type 0
+Reads t =
+    ((us : List QueryTurn) → Reading queries t us → Stepping t (queriesOf 0 us))
+    × ((qs : List SingleQuery) → Stepping t qs → (us : List QueryTurn) × Reading queries t us × (queriesOf 0 us ≡ qs))
+
+-- any two readings are the same
+abbrev pub Once : List ℕ → Type 0
+Once t = (us vs : List QueryTurn) → Reading queries t us → Reading queries t vs → us ≡ vs
+
+-- the queries of ws are those of us and then those of vs, moved along by n
+abbrev pub Follow : ℕ → List QueryTurn → List QueryTurn → List QueryTurn → Type 0
+Follow n us vs ws = queriesOf 0 ws ≡ queriesOf 0 us ++ map (moved n) (queriesOf 0 vs)
+
+-- a text that a reading can start on, and its reading
+pub record Holds (cells : List Cell) (us : List QueryTurn) : Type 0 where
+  pub readable : Readable cells
+  pub reading : Reading queries (codes cells) us
+
+-- a and b with a comma between have a reading exactly when both have, and its queries are theirs
+pub record Joins (a b : List Cell) : Type 0 where
+  -- no white space at the ends of the join either, so that a reader reads all of it
+  pub clean : Clean (joint a b)
+  pub both : (us vs : List QueryTurn) → Holds a us → Holds b vs → (ws : List QueryTurn) × Holds (joint a b) ws × Follow (length a + 1) us vs ws
+  pub apart : (ws : List QueryTurn) → Holds (joint a b) ws → (us : List QueryTurn) × (vs : List QueryTurn) × Holds a us × Holds b vs × Follow (length a + 1) us vs ws
+
+-- a reader of trimmed cells has made the exchanges xs and has k queries before its place
+pub record Law (cells : List Cell) (xs : List Exchange) (k : ℕ) : Type 0 where
+  pub runs : Runs (codes cells) 0 xs k
+  pub spelt : Spelt (codes cells) k
+  pub reads : Reads (codes cells)
+  pub one : Once (codes cells)
+  pub clean : Clean cells
+  -- of any two texts that are trimmed and not empty
+  pub joins : (a b : List Cell) → Clean a → Clean b → 0 < length a → 0 < length b → Joins a b
+
+-- start accepted the text, and the calls were made on a reader of its trim
+pub record Replayed (cells : List Cell) (before after : List Exchange) (k : ℕ) : Type 0 where
+  pub readable : Readable cells
+  pub law : Law (trimmed cells) after k
+  pub calls : map callOf after ≡ map callOf before
+
+-- start refused the text, on which no reading can start, and no call was made
+pub record Unread (cells : List Cell) (before after : List Exchange) (e : Refusal) : Type 0 where
+  pub refused : startRefusal cells ≡ Err e
+  pub unreadable : Readable cells → ⊥
+  pub same : after ≡ before

@@ -1,0 +1,3 @@
+// Lists of calls on one reader, and the law that their answers keep.
+pub mod calls;
+pub mod replay;
