@@ -1,18 +1,17 @@
--- How a reading ended, as four numbers: the refusal's number, its place, and of a bad cell its fault and own place.
-use mathlib.Core.List.{List, [], _∷_}
+-- How a reading ended, as four numbers: what a refusal tells, and zeros behind it.
+use mathlib.Core.List.{List, [], _∷_, _++_}
 use mathlib.Core.Bool.{Bool, true, false}
 use Prim.Native.Nat.{ℕ}
+use lib.ListN.{take}
 use Rattle.std.specs.declared.result.Result.{Result}
 use Rattle.std.specs.declared.result.Result.the-variants.{Ok, Err}
 use Rattle.reader.specs.declared.step.Step.{Step}
 use Rattle.reader.specs.declared.step.Step.the-variants.{Given, End}
 use Rattle.reader.specs.declared.refusal.Refusal.{Refusal}
-use Rattle.reader.specs.declared.refusal.Refusal.the-variants.{BadCell, IllFormed, NoReading}
+use Rattle.reader.specs.Refusals.{told}
 
 abbrev pub outcomeOf : Refusal → List ℕ
-outcomeOf (BadCell place fault) = 1 ∷ place ∷ fault .number ∷ fault .own ∷ []
-outcomeOf (IllFormed place) = 2 ∷ place ∷ 0 ∷ 0 ∷ []
-outcomeOf (NoReading place) = 3 ∷ place ∷ 0 ∷ 0 ∷ []
+outcomeOf r = take 4 (told r ++ (0 ∷ 0 ∷ 0 ∷ 0 ∷ []))
 
 -- whether a step gave a query, so that another may follow
 abbrev pub goesOn : Result Step Refusal → Bool

@@ -37,6 +37,7 @@ fn outcome_of(refusal: Refusal) -> [u64; 4]
         ],
         Refusal::IllFormed { place } => [2, place as u64, 0, 0],
         Refusal::NoReading { place } => [3, place as u64, 0, 0],
+        Refusal::AtStart => [5, 0, 0, 0],
     }
 }
 

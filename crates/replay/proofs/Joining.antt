@@ -4,15 +4,18 @@ use mathlib.Core.Bool.{Bool, true, false, cond}
 use mathlib.Core.List.{List, [], _∷_, _++_, map, reverse}
 use Prim.Native.Nat.{ℕ, zero, suc, _+_, _-_, _≤_, _<_}
 use native.Mathlib.Omega.{arith}
+use lib.Dec.{leb}
 use lib.ListN.{length, take, drop, getD, length-reverse, length-map}
 use Rattle.std.specs.declared.option.Option.{Option}
 use Rattle.std.specs.declared.option.Option.the-variants.{Some, None}
 use Rattle.std.proofs.shelf.Lists.{getD-reverse}
+use Rattle.std.proofs.shelf.Tests.{cond-true, le-leb}
 use Rattle.std.proofs.shelf.Ways.{tells}
 use Rattle.texts.specs.declared.cell.Cell.{Cell}
 use Rattle.texts.specs.Codes.{code, codes}
 use Rattle.texts.specs.Trim.{Clean}
 use Rattle.texts.specs.Spaces.{single, spaceFrom, spaceBack, onSpace, leading, inFront, behind}
+use Rattle.layers.specs.Joins.{joined as layered}
 use Rattle.grammar.specs.Classes.{blank}
 use Rattle.grammar.specs.Form.{between}
 use Rattle.grammar.specs.Along.{queries}
@@ -20,6 +23,7 @@ use Rattle.grammar.specs.Readings.{Turns, Reading, spelling, moved-turn, moved-
 use Rattle.grammar.proofs.Moved.{query-spells, query-joins}
 use Rattle.replay.specs.Queries.{QueryTurn, joined, queryOf, queriesOf, moved}
 use Rattle.replay.specs.Law.{Follow, Holds, Joins}
+use Rattle.replay.specs.Texts.{joint}
 use Rattle.replay.proofs.Joints.{joint-codes, readable-join, readable-split, clean-joint}
 use Rattle.replay.proofs.Turning.{queries-append}
 
@@ -89,12 +93,19 @@ joinable a b x y la lb =
     let nb : 0 < length (codes b) = omega (arith, lb, length-map b code) in
     record { some-a = na; some-b = nb; bare-a = last-bare (codes a) na (x .back); bare-b = bare-front (codes b) nb (y .front) }
 
+-- the join layer's text, where it fits
+layer-is : (a b : List Cell) → 0 < length a → 0 < length b → length (joint a b) ≤ 16384 → layered a b ≡ joint a b
+layer-is [] b la lb h = absurd (omega arith)
+layer-is (x ∷ a) [] la lb h = absurd (omega arith)
+layer-is (x ∷ a) (y ∷ b) la lb h = cond-true (leb (length (joint (x ∷ a) (y ∷ b))) 16384) _ _ (le-leb (length (joint (x ∷ a) (y ∷ b))) 16384 h)
+
 pub joins : (a b : List Cell) → Clean a → Clean b → 0 < length a → 0 < length b → Joins a b
 joins a b x y la lb =
     let j = joinable a b x y la lb in
     let n : length (codes a) + 1 ≡ length a + 1 = ap (λ m. m + 1) (length-map a code) in
     let e = joint-codes a b in
     record {
+      layer = layer-is a b la lb;
       clean = clean-joint a b x y la lb;
       both = λ us vs h k. let r = joined-reading (codes a) (codes b) j us vs (h .reading) (k .reading) in (
         r .0,

@@ -2,12 +2,13 @@
 use mathlib.Core.Path.{_≡_}
 use mathlib.Core.Bool.{false}
 use mathlib.Core.List.{List, [], _∷_, _++_, map}
-use Prim.Native.Nat.{ℕ, _+_, _<_}
+use Prim.Native.Nat.{ℕ, _+_, _<_, _≤_}
 use lib.ListN.{length, drop}
 use Rattle.std.specs.declared.result.Result.the-variants.{Err}
 use Rattle.texts.specs.declared.cell.Cell.{Cell}
 use Rattle.texts.specs.Codes.{codes}
 use Rattle.texts.specs.Trim.{trimmed, Clean}
+use Rattle.layers.specs.Joins.{joined as layered}
 use Rattle.grammar.specs.declared.query.SingleQuery.{SingleQuery}
 use Rattle.grammar.specs.Along.{queries}
 use Rattle.grammar.specs.Readings.{Turns, Reading, spelling}
@@ -66,6 +67,8 @@ pub record Holds (cells : List Cell) (us : List QueryTurn) : Type 0 where
 
 -- a and b with a comma between have a reading exactly when both have, and its queries are theirs
 pub record Joins (a b : List Cell) : Type 0 where
+  -- where it fits, it is the text of the join layer
+  pub layer : length (joint a b) ≤ 16384 → layered a b ≡ joint a b
   -- no white space at the ends of the join either, so that a reader reads all of it
   pub clean : Clean (joint a b)
   pub both : (us vs : List QueryTurn) → Holds a us → Holds b vs → (ws : List QueryTurn) × Holds (joint a b) ws × Follow (length a + 1) us vs ws
