@@ -7,7 +7,7 @@ use reader::step::Step;
 use std::io;
 use texts::text::Text;
 
-fn print_query(rt: &LibcRuntime, query: SingleQuery) -> io::Result<()> {
+pub fn print_query(rt: &LibcRuntime, query: SingleQuery) -> io::Result<()> {
     let start = query.raw.start;
     let end = query.raw.end;
     let negated = u8::from(query.negated);
@@ -16,7 +16,7 @@ fn print_query(rt: &LibcRuntime, query: SingleQuery) -> io::Result<()> {
     println!(rt, "{start} {end} {negated} {is_and} {name}")
 }
 
-fn print_refusal(rt: &LibcRuntime, refusal: Refusal) -> io::Result<()> {
+pub fn print_refusal(rt: &LibcRuntime, refusal: Refusal) -> io::Result<()> {
     let number = refusal.number();
     let place = refusal.place();
     println!(rt, "refused {number} {place}")

@@ -2,12 +2,11 @@
 use mathlib.Core.Path.{_≡_, refl, sym, ap, subst, _∙_}
 use mathlib.Core.Bool.{Bool, true, false, cond}
 use mathlib.Core.List.{List, [], _∷_, _++_, map, reverse}
-use Prim.Native.Nat.{ℕ, zero, suc, _+_, _-_, _≤_, _<_}
+use Prim.Native.Nat.{ℕ, suc, _+_, _-_, _<_, _≤_}
 use native.Mathlib.Omega.{arith}
 use lib.Dec.{leb}
-use lib.ListN.{length, take, drop, getD, length-reverse, length-map}
-use Rattle.std.specs.declared.option.Option.{Option}
-use Rattle.std.specs.declared.option.Option.the-variants.{Some, None}
+use lib.ListN.{length, getD, length-reverse, length-map}
+use Rattle.std.specs.declared.option.Option.the-variants.{Some}
 use Rattle.std.proofs.shelf.Lists.{getD-reverse}
 use Rattle.std.proofs.shelf.Tests.{cond-true, le-leb}
 use Rattle.std.proofs.shelf.Ways.{tells}
@@ -19,10 +18,10 @@ use Rattle.layers.specs.Joins.{joined as layered}
 use Rattle.grammar.specs.Classes.{blank}
 use Rattle.grammar.specs.Form.{between}
 use Rattle.grammar.specs.Along.{queries}
-use Rattle.grammar.specs.Readings.{Turns, Reading, spelling, moved-turn, moved-turns, behind-comma, Joinable}
+use Rattle.grammar.specs.Readings.{Reading, spelling, moved-turn, moved-turns, behind-comma, Joinable}
 use Rattle.grammar.proofs.Moved.{query-spells, query-joins}
 use Rattle.replay.specs.Queries.{QueryTurn, joined, queryOf, queriesOf, moved}
-use Rattle.replay.specs.Law.{Follow, Holds, Joins}
+use Rattle.replay.specs.Law.{Follow, Joins}
 use Rattle.replay.specs.Texts.{joint}
 use Rattle.replay.proofs.Joints.{joint-codes, readable-join, readable-split, clean-joint}
 use Rattle.replay.proofs.Turning.{queries-append}

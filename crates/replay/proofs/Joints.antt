@@ -1,10 +1,9 @@
 -- Two texts with a comma between: a reading can start on them exactly when it can on both, and no white space comes to their ends.
-use mathlib.Core.Path.{_≡_, refl, sym, ap, subst, _∙_}
-use mathlib.Core.Bool.{Bool, true, false, cond, _&&_, _||_}
-use mathlib.Core.List.{List, [], _∷_, _++_, map, reverse}
-use Prim.Native.Nat.{ℕ, zero, suc, _+_, _-_, _≤_, _<_}
+use mathlib.Core.Path.{_≡_, refl, sym, ap, _∙_}
+use mathlib.Core.Bool.{Bool, true, false, cond}
+use mathlib.Core.List.{List, [], _∷_, _++_, reverse}
+use Prim.Native.Nat.{ℕ, zero, suc, _+_, _-_, _<_}
 use native.Mathlib.Omega.{arith}
-use lib.Dec.{eqb, leb}
 use lib.ListN.{length, take, drop, getD, length-reverse, length-map}
 use Rattle.std.specs.declared.option.Option.{Option}
 use Rattle.std.specs.declared.option.Option.the-variants.{Some, None}
@@ -14,7 +13,7 @@ use Rattle.texts.specs.declared.cell.Cell.{Cell}
 use Rattle.texts.specs.declared.cell.Cell.the-variants.{Byte, Bad}
 use Rattle.texts.specs.Codes.{code, codes}
 use Rattle.texts.specs.Trim.{trimmed, trimmedBehind, Clean}
-use Rattle.texts.specs.Spaces.{single, double, triple, spaceFrom, spaceBack, onSpace, leading, inFront, behind}
+use Rattle.texts.specs.Spaces.{spaceFrom, spaceBack, onSpace, leading, inFront, behind}
 use Rattle.reader.specs.declared.utf8.State.{State}
 use Rattle.reader.specs.declared.utf8.State.the-variants.{Start, Last, Two, Three, AfterE0, AfterED, AfterF0, AfterF4}
 use Rattle.reader.specs.Utf8.{stepOf, isStart, onStep, illFrom, illFormed}

@@ -1,6 +1,5 @@
 -- What each call makes of a reader that stands, and one call more.
 use mathlib.Core.Path.{_≡_, refl, sym, ap, subst, _∙_}
-use mathlib.Core.Bool.{Bool, true, false, cond}
 use mathlib.Core.List.{List, [], _∷_, _++_, map}
 use Prim.Native.Nat.{ℕ, zero, suc, _+_, _-_, _≤_, _<_, max}
 use native.Mathlib.Omega.{arith}
@@ -13,7 +12,7 @@ use Rattle.std.proofs.shelf.Tests.{cond-both, leb-true, leb-false}
 use Rattle.std.proofs.shelf.Lists.{take-more-set}
 use Rattle.grammar.specs.declared.query.SingleQuery.{SingleQuery}
 use Rattle.reader.specs.declared.refusal.Refusal.{Refusal}
-use Rattle.reader.specs.declared.refusal.Refusal.the-variants.{NoReading, AtStart}
+use Rattle.reader.specs.declared.refusal.Refusal.the-variants.{AtStart}
 use Rattle.reader.specs.declared.step.Step as the-step
 use Rattle.reader.specs.declared.step.Step.the-variants as outcome
 use Rattle.reader.specs.Steps.{queryK, answered, stepped, placeAfter, countAfter, placeOf, backed, placeBack}

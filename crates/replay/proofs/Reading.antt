@@ -2,20 +2,20 @@
 use mathlib.Core.Path.{_≡_, refl, sym, ap, subst, _∙_}
 use mathlib.Core.Bool.{Bool, true, false}
 use mathlib.Core.List.{List, [], _∷_, _++_, map, append-assoc}
-use Prim.Native.Nat.{ℕ, zero, suc, _+_, _-_, _≤_, _<_}
+use Prim.Native.Nat.{ℕ, zero, suc, _+_, _-_, _≤_}
 use native.Mathlib.Omega.{arith}
-use lib.ListN.{length, take, drop, length-append, length-drop}
-use Rattle.std.specs.declared.result.Result.the-variants.{Ok, Err}
+use lib.ListN.{length, drop, length-append, length-drop}
+use Rattle.std.specs.declared.result.Result.the-variants.{Ok}
 use Rattle.std.proofs.shelf.Lists.{drop-drop, take-append-drop, map-append}
 use Rattle.grammar.specs.declared.query.SingleQuery.{SingleQuery}
 use Rattle.grammar.specs.Form.{between}
 use Rattle.grammar.specs.Along.{queries}
-use Rattle.grammar.specs.Readings.{Turns, Reading, spelling}
+use Rattle.grammar.specs.Readings.{Turns, spelling}
 use Rattle.grammar.proofs.Moved.{query-single}
 use Rattle.reader.specs.Steps.{queryK, placeOf}
 use Rattle.reader.proofs.Stepping.{next-end}
 use Rattle.reader.proofs.Places.{place-fits, place-next}
-use Rattle.replay.specs.Runs.{Does, gives, ends, Runs, none, more, Begun}
+use Rattle.replay.specs.Runs.{gives, ends, Runs, none, more, Begun}
 use Rattle.replay.specs.Queries.{QueryTurn, queryOf, queriesOf}
 use Rattle.replay.specs.Law.{Spelt, giving, ending, Reads, Once}
 use Rattle.replay.proofs.Made.{runs-more}

@@ -4,17 +4,17 @@ use mathlib.Core.Bool.{Bool, true, false}
 use mathlib.Core.List.{List, [], _∷_, _++_}
 use Prim.Native.Nat.{ℕ, zero, suc, _+_, _-_, _≤_, _<_}
 use native.Mathlib.Omega.{arith}
-use lib.ListN.{length, take, drop, length-take, length-drop, length-append}
+use lib.ListN.{length, drop, length-take, length-drop, length-append}
 use Rattle.std.specs.declared.option.Option.{Option}
 use Rattle.std.specs.declared.option.Option.the-variants.{Some, None}
 use Rattle.std.specs.declared.result.Result.{Result}
 use Rattle.std.specs.declared.result.Result.the-variants.{Ok, Err}
 use Rattle.grammar.specs.declared.query.QueryAtom.{QueryAtom}
 use Rattle.grammar.specs.declared.query.SingleQuery.{SingleQuery}
-use Rattle.grammar.specs.Form.{Value, query, flag, Outcome, between, reads}
+use Rattle.grammar.specs.Form.{query, Outcome, between, reads}
 use Rattle.grammar.specs.Forms.{querying, missed, separating}
 use Rattle.grammar.specs.Along.{queries}
-use Rattle.grammar.specs.Readings.{Turn, Between, Turns, spelling}
+use Rattle.grammar.specs.Readings.{Between, Turns, spelling}
 use Rattle.grammar.proofs.Queries.{query-fits, separator-fits}
 use Rattle.reader.specs.Steps.{found, queryAt, atFirst, behind, queryK}
 use Rattle.replay.specs.Queries.{QueryTurn, joined, queryOf, queriesOf}

@@ -1,7 +1,6 @@
 -- Texts that a reading can start on, and the join of two texts.
 use mathlib.Core.Path.{_≡_}
 use mathlib.Core.List.{List, [], _∷_, _++_}
-use Prim.Native.Nat.{ℕ}
 use Rattle.std.specs.declared.option.Option.the-variants.{None}
 use Rattle.texts.specs.declared.cell.Cell.{Cell}
 use Rattle.texts.specs.declared.cell.Cell.the-variants.{Byte, Bad}
