@@ -11,8 +11,9 @@ use Rattle.std.proofs.shelf.Lists.{getD-reverse}
 use Rattle.std.proofs.shelf.Tests.{cond-true, le-leb}
 use Rattle.std.proofs.shelf.Ways.{tells}
 use Rattle.texts.specs.declared.cell.Cell.{Cell}
+use Rattle.texts.specs.declared.cell.Cell.the-variants.{Byte}
 use Rattle.texts.specs.Codes.{code, codes}
-use Rattle.texts.specs.Trim.{Clean}
+use Rattle.texts.specs.Trim.{trimmed, Clean}
 use Rattle.texts.specs.Spaces.{single, spaceFrom, spaceBack, onSpace, leading, inFront, behind}
 use Rattle.layers.specs.Joins.{joined as layered}
 use Rattle.grammar.specs.Classes.{blank}
@@ -98,25 +99,30 @@ layer-is [] b la lb h = absurd (omega arith)
 layer-is (x ∷ a) [] la lb h = absurd (omega arith)
 layer-is (x ∷ a) (y ∷ b) la lb h = cond-true (leb (length (joint (x ∷ a) (y ∷ b))) 16384) _ _ (le-leb (length (joint (x ∷ a) (y ∷ b))) 16384 h)
 
+-- a reading of equal codes
+again : {s t : List ℕ} (us : List QueryTurn) → s ≡ t → Reading queries s us → Reading queries t us
+again us e h = subst (λ l. Reading queries l us) e h
+
 pub joins : (a b : List Cell) → Clean a → Clean b → 0 < length a → 0 < length b → Joins a b
 joins a b x y la lb =
     let j = joinable a b x y la lb in
     let n : length (codes a) + 1 ≡ length a + 1 = ap (λ m. m + 1) (length-map a code) in
-    let e = joint-codes a b in
+    let c = clean-joint a b x y la lb in
+    let e : codes (trimmed (a ++ Byte 44 ∷ b)) ≡ codes a ++ 44 ∷ codes b = ap codes (c .once) ∙ joint-codes a b in
     record {
       layer = layer-is a b la lb;
-      clean = clean-joint a b x y la lb;
-      both = λ us vs h k. let r = joined-reading (codes a) (codes b) j us vs (h .reading) (k .reading) in (
+      clean = c;
+      both = λ us vs h k. let r = joined-reading (codes a) (codes b) j us vs (again us (ap codes (x .once)) (h .reading)) (again vs (ap codes (y .once)) (k .reading)) in (
         r .0,
-        record { readable = readable-join a b (h .readable) (k .readable); reading = subst (λ t. Reading queries t (r .0)) (sym e) (r .1) },
+        record { readable = readable-join a b (h .readable) (k .readable); reading = again (r .0) (sym e) (r .1) },
         subst (λ m. Follow m us vs (r .0)) n (r .2),
       );
-      apart = λ ws h. let r = parted-reading (codes a) (codes b) j ws (subst (λ t. Reading queries t ws) e (h .reading)) in
+      apart = λ ws h. let r = parted-reading (codes a) (codes b) j ws (again ws e (h .reading)) in
           let w = readable-split a b (h .readable) in (
             r .0,
             r .1,
-            record { readable = w .0; reading = r .2 },
-            record { readable = w .1; reading = r .3 },
+            record { readable = w .0; reading = again (r .0) (ap codes (sym (x .once))) (r .2) },
+            record { readable = w .1; reading = again (r .1) (ap codes (sym (y .once))) (r .3) },
             subst (λ m. Follow m (r .0) (r .1) ws) n (r .4),
           );
     }

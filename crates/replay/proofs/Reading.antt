@@ -7,6 +7,9 @@ use native.Mathlib.Omega.{arith}
 use lib.ListN.{length, drop, length-append, length-drop}
 use Rattle.std.specs.declared.result.Result.the-variants.{Ok}
 use Rattle.std.proofs.shelf.Lists.{drop-drop, take-append-drop, map-append}
+use Rattle.texts.specs.declared.cell.Cell.{Cell}
+use Rattle.texts.specs.Codes.{codes}
+use Rattle.texts.specs.Trim.{trimmed}
 use Rattle.grammar.specs.declared.query.SingleQuery.{SingleQuery}
 use Rattle.grammar.specs.Form.{between}
 use Rattle.grammar.specs.Along.{queries}
@@ -18,6 +21,7 @@ use Rattle.reader.proofs.Places.{place-fits, place-next}
 use Rattle.replay.specs.Runs.{gives, ends, Runs, none, more, Begun}
 use Rattle.replay.specs.Queries.{QueryTurn, queryOf, queriesOf}
 use Rattle.replay.specs.Law.{Spelt, giving, ending, Reads, Once}
+use Rattle.replay.proofs.Starting.{accepted-readable, readable-accepted}
 use Rattle.replay.proofs.Made.{runs-more}
 use Rattle.replay.proofs.Turning.{begun, turn-fits, turn-long, turn-query, query-turn, queries-append}
 
@@ -101,8 +105,16 @@ steps-reading (q ∷ qs) t k p m ep (more (gives lt h) rest) =
     let behind : Turns queries true t (d .1) (w .0) (length t) = subst (λ x. Turns queries true t x (w .0) (length t)) (at ∙ sym (d .6)) (w .1) in
     (u ∷ w .0, (d .0, d .1, d .2, d .3, d .4, d .5, behind), λ i. c .2 i ∷ w .2 i)
 
-pub reads : (t : List ℕ) → Reads t
-reads t = (λ us h. reading-steps us t 0 0 (length (queriesOf 0 us)) refl (omega arith) h, λ qs run. steps-reading qs t 0 0 (length qs) refl run)
+pub reads : (cells : List Cell) → Reads cells
+reads cells =
+    let t = codes (trimmed cells) in (
+      λ us h. record {
+        accepted = readable-accepted cells (h .readable);
+        steps = reading-steps us t 0 0 (length (queriesOf 0 us)) refl (omega arith) (h .reading);
+      },
+      λ qs s. let r = steps-reading qs t 0 0 (length qs) refl (s .steps) in
+          (r .0, record { readable = accepted-readable cells (s .accepted); reading = r .1 }, r .2),
+    )
 
-pub one : (t : List ℕ) → Once t
-one t us vs h k = query-single t us vs h k
+pub one : (cells : List Cell) → Once cells
+one cells us vs h k = query-single (codes (trimmed cells)) us vs (h .reading) (k .reading)

@@ -38,7 +38,7 @@ accepted-readable cells h =
     let w = both-pass (badRefusal cells) (illRefusal (illFormed (codes cells))) h in
     record { bytes = passed-bytes cells 0 (w .0); formed = none-ill (illFormed (codes cells)) (w .1) }
 
-readable-accepted : (cells : List Cell) → Readable cells → startRefusal cells ≡ Ok tt
+pub readable-accepted : (cells : List Cell) → Readable cells → startRefusal cells ≡ Ok tt
 readable-accepted cells h = λ i. andThen (bytes-pass cells 0 (h .bytes) i) (illRefusal (h .formed i))
 
 pub refused-unreadable : (cells : List Cell) (e : Refusal) → startRefusal cells ≡ Err e → Readable cells → ⊥

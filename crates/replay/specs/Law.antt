@@ -4,7 +4,7 @@ use mathlib.Core.Bool.{false}
 use mathlib.Core.List.{List, [], _∷_, _++_, map}
 use Prim.Native.Nat.{ℕ, _+_, _<_, _≤_}
 use lib.ListN.{length, drop}
-use Rattle.std.specs.declared.result.Result.the-variants.{Err}
+use Rattle.std.specs.declared.result.Result.the-variants.{Ok, Err}
 use Rattle.texts.specs.declared.cell.Cell.{Cell}
 use Rattle.texts.specs.Codes.{codes}
 use Rattle.texts.specs.Trim.{trimmed, Clean}
@@ -42,28 +42,29 @@ pub record Spelt (t : List ℕ) (k : ℕ) : Type 0 where
   -- k steps from the start give them
   pub given : Runs t 0 (map giving (queriesOf 0 turns)) k
 
--- stepping from the start gives these queries and then "end"
-abbrev pub Stepping : List ℕ → List SingleQuery → Type 0
-Stepping t qs = Runs t 0 (map giving qs ++ ending ∷ []) (length qs)
+-- a text has this reading: a reading can start on it, and the turns make up its trim
+pub record Holds (cells : List Cell) (us : List QueryTurn) : Type 0 where
+  pub readable : Readable cells
+  pub reading : Reading queries (codes (trimmed cells)) us
+
+-- start accepts the text, and stepping gives these queries and then "end"
+pub record Stepping (cells : List Cell) (qs : List SingleQuery) : Type 0 where
+  pub accepted : startRefusal cells ≡ Ok tt
+  pub steps : Runs (codes (trimmed cells)) 0 (map giving qs ++ ending ∷ []) (length qs)
 
 -- stepping reaches "end" exactly when there is a reading, and gives its queries
-abbrev pub Reads : List ℕ → Type 0
-Reads t =
-    ((us : List QueryTurn) → Reading queries t us → Stepping t (queriesOf 0 us))
-    × ((qs : List SingleQuery) → Stepping t qs → (us : List QueryTurn) × Reading queries t us × (queriesOf 0 us ≡ qs))
+abbrev pub Reads : List Cell → Type 0
+Reads cells =
+    ((us : List QueryTurn) → Holds cells us → Stepping cells (queriesOf 0 us))
+    × ((qs : List SingleQuery) → Stepping cells qs → (us : List QueryTurn) × Holds cells us × (queriesOf 0 us ≡ qs))
 
 -- any two readings are the same
-abbrev pub Once : List ℕ → Type 0
-Once t = (us vs : List QueryTurn) → Reading queries t us → Reading queries t vs → us ≡ vs
+abbrev pub Once : List Cell → Type 0
+Once cells = (us vs : List QueryTurn) → Holds cells us → Holds cells vs → us ≡ vs
 
 -- the queries of ws are those of us and then those of vs, moved along by n
 abbrev pub Follow : ℕ → List QueryTurn → List QueryTurn → List QueryTurn → Type 0
 Follow n us vs ws = queriesOf 0 ws ≡ queriesOf 0 us ++ map (moved n) (queriesOf 0 vs)
-
--- a text that a reading can start on, and its reading
-pub record Holds (cells : List Cell) (us : List QueryTurn) : Type 0 where
-  pub readable : Readable cells
-  pub reading : Reading queries (codes cells) us
 
 -- a and b with a comma between have a reading exactly when both have, and its queries are theirs
 pub record Joins (a b : List Cell) : Type 0 where
@@ -74,20 +75,20 @@ pub record Joins (a b : List Cell) : Type 0 where
   pub both : (us vs : List QueryTurn) → Holds a us → Holds b vs → (ws : List QueryTurn) × Holds (joint a b) ws × Follow (length a + 1) us vs ws
   pub apart : (ws : List QueryTurn) → Holds (joint a b) ws → (us : List QueryTurn) × (vs : List QueryTurn) × Holds a us × Holds b vs × Follow (length a + 1) us vs ws
 
--- a reader of trimmed cells has made the exchanges xs and has k queries before its place
+-- a reader of a text has made the exchanges xs and has k queries before its place
 pub record Law (cells : List Cell) (xs : List Exchange) (k : ℕ) : Type 0 where
-  pub runs : Runs (codes cells) 0 xs k
-  pub spelt : Spelt (codes cells) k
-  pub reads : Reads (codes cells)
-  pub one : Once (codes cells)
-  pub clean : Clean cells
+  pub runs : Runs (codes (trimmed cells)) 0 xs k
+  pub spelt : Spelt (codes (trimmed cells)) k
+  pub reads : Reads cells
+  pub one : Once cells
+  pub clean : Clean (trimmed cells)
   -- of any two texts that are trimmed and not empty
   pub joins : (a b : List Cell) → Clean a → Clean b → 0 < length a → 0 < length b → Joins a b
 
--- start accepted the text, and the calls were made on a reader of its trim
+-- start accepted the text, and the calls were made on a reader of it
 pub record Replayed (cells : List Cell) (before after : List Exchange) (k : ℕ) : Type 0 where
   pub readable : Readable cells
-  pub law : Law (trimmed cells) after k
+  pub law : Law cells after k
   pub calls : map callOf after ≡ map callOf before
 
 -- start refused the text, on which no reading can start, and no call was made

@@ -51,8 +51,8 @@ returns g c =
       law = record {
         runs = subst (Runs t 0 xs) k (subst (λ l. Runs t 0 l (r .k)) all (c .loop-i .inv .2));
         spelt = spelt t (c .count .result) (subst (λ n. Stands t n (r .place)) k (c .loop-i .inv .1) .1);
-        reads = reads t;
-        one = one t;
+        reads = reads cells;
+        one = one cells;
         clean = trimmed-clean cells;
         joins = joins;
       };
