@@ -7,7 +7,7 @@ use native.Mathlib.Omega.{arith}
 use lib.Dec.{leb}
 use lib.ListN.{length, getD, length-reverse, length-map}
 use Rattle.std.specs.declared.option.Option.the-variants.{Some}
-use Rattle.std.proofs.shelf.Lists.{getD-reverse}
+use Rattle.std.proofs.shelf.Lists.{getD-reverse, append-nil}
 use Rattle.std.proofs.shelf.Tests.{cond-true, le-leb}
 use Rattle.std.proofs.shelf.Ways.{tells}
 use Rattle.texts.specs.declared.cell.Cell.{Cell}
@@ -15,20 +15,25 @@ use Rattle.texts.specs.declared.cell.Cell.the-variants.{Byte}
 use Rattle.texts.specs.Codes.{code, codes}
 use Rattle.texts.specs.Trim.{trimmed, Clean}
 use Rattle.texts.specs.Spaces.{single, spaceFrom, spaceBack, onSpace, leading, inFront, behind}
-use Rattle.layers.specs.Joins.{joined as layered}
+use Rattle.layers.specs.Joins.{joined}
+use Rattle.texts.specs.Cells.{overfull}
 use Rattle.grammar.specs.Classes.{blank}
 use Rattle.grammar.specs.Form.{between}
 use Rattle.grammar.specs.Along.{queries}
 use Rattle.grammar.specs.Readings.{Reading, spelling, moved-turn, moved-turns, behind-comma, Joinable}
-use Rattle.grammar.proofs.Moved.{query-spells, query-joins}
-use Rattle.replay.specs.Queries.{QueryTurn, joined, queryOf, queriesOf, moved}
-use Rattle.replay.specs.Law.{Follow, Joins}
+use Rattle.grammar.proofs.Moved.{query-single, query-spells, query-joins}
+use Rattle.replay.specs.Queries.{QueryTurn, joined as linked, queryOf, queriesOf, moved}
+use Rattle.replay.specs.Law.{Holds, Fit, Joins}
 use Rattle.replay.specs.Texts.{joint}
 use Rattle.replay.proofs.Joints.{joint-codes, readable-join, readable-split, clean-joint}
 use Rattle.replay.proofs.Turning.{queries-append}
 
+-- the queries of ws are those of us and then those of vs, moved along by n
+abbrev Moved : ℕ → List QueryTurn → List QueryTurn → List QueryTurn → Type 0
+Moved n us vs ws = queriesOf 0 ws ≡ queriesOf 0 us ++ map (moved n) (queriesOf 0 vs)
+
 -- a turn moved along, as a query; its separator may be another that says the same
-query-moved : (n p q : ℕ) (u v : QueryTurn) → joined (v .link) ≡ joined (u .link) → v .value ≡ (u .value .0, queries .along n (u .value) .1) → v .raw ≡ u .raw → q + length (v .sep) ≡ n + (p + length (u .sep)) → queryOf q v ≡ moved n (queryOf p u)
+query-moved : (n p q : ℕ) (u v : QueryTurn) → linked (v .link) ≡ linked (u .link) → v .value ≡ (u .value .0, queries .along n (u .value) .1) → v .raw ≡ u .raw → q + length (v .sep) ≡ n + (p + length (u .sep)) → queryOf q v ≡ moved n (queryOf p u)
 query-moved n p q u v a w r e =
     let f : q + length (v .sep) + length (v .raw) ≡ n + (p + length (u .sep) + length (u .raw)) = omega (arith, e, ap length r) in
     λ i. record { raw = record { start = e i; end = f i }; atom = w i .1; negated = w i .0; «is_and» = a i }
@@ -46,20 +51,20 @@ queries-behind b n [] h = refl
 queries-behind b n (v ∷ vs) h =
     let u : QueryTurn = record { sep = 44 ∷ []; link = Some false; raw = v .raw; value = queries .along (n + 1) (v .value) } in
     let none : length (v .sep) ≡ 0 = ap length (h .3 ∙ ap (λ m. between b 0 m) (h .2 .1)) in
-    let here = query-moved (n + 1) 0 n v u (ap joined (sym (h .2 .0))) refl refl (omega (arith, none)) in
+    let here = query-moved (n + 1) 0 n v u (ap linked (sym (h .2 .0))) refl refl (omega (arith, none)) in
     let rest = queries-moved (n + 1) (0 + length (v .sep) + length (v .raw)) (n + 1 + length (v .raw)) vs (omega (arith, none)) in
     λ i. here i ∷ rest i
 
-follow : (a b : List ℕ) (us vs : List QueryTurn) → Reading queries a us → Reading queries b vs → Follow (length a + 1) us vs (us ++ behind-comma queries (length a + 1) vs)
+follow : (a b : List ℕ) (us vs : List QueryTurn) → Reading queries a us → Reading queries b vs → Moved (length a + 1) us vs (us ++ behind-comma queries (length a + 1) vs)
 follow a b us vs h k =
     let e : length a ≡ 0 + length (spelling us) = omega (arith, ap length (query-spells a us h)) in
     queries-append us (behind-comma queries (length a + 1) vs) 0 (length a) e ∙ ap (λ l. queriesOf 0 us ++ l) (queries-behind b (length a) vs k)
 
 -- the readings of both are the reading of the join, and the other way round
-joined-reading : (a b : List ℕ) → Joinable a b → (us vs : List QueryTurn) → Reading queries a us → Reading queries b vs → (ws : List QueryTurn) × Reading queries (a ++ 44 ∷ b) ws × Follow (length a + 1) us vs ws
+joined-reading : (a b : List ℕ) → Joinable a b → (us vs : List QueryTurn) → Reading queries a us → Reading queries b vs → (ws : List QueryTurn) × Reading queries (a ++ 44 ∷ b) ws × Moved (length a + 1) us vs ws
 joined-reading a b j us vs h k = (us ++ behind-comma queries (length a + 1) vs, query-joins a b j .0 us vs h k, follow a b us vs h k)
 
-parted-reading : (a b : List ℕ) → Joinable a b → (ws : List QueryTurn) → Reading queries (a ++ 44 ∷ b) ws → (us : List QueryTurn) × (vs : List QueryTurn) × Reading queries a us × Reading queries b vs × Follow (length a + 1) us vs ws
+parted-reading : (a b : List ℕ) → Joinable a b → (ws : List QueryTurn) → Reading queries (a ++ 44 ∷ b) ws → (us : List QueryTurn) × (vs : List QueryTurn) × Reading queries a us × Reading queries b vs × Moved (length a + 1) us vs ws
 parted-reading a b j ws h =
     let r = query-joins a b j .1 ws h in
     (r .0, r .1, r .2, r .3, ap (queriesOf 0) (r .4) ∙ follow a b (r .0) (r .1) (r .2) (r .3))
@@ -93,29 +98,27 @@ joinable a b x y la lb =
     let nb : 0 < length (codes b) = omega (arith, lb, length-map b code) in
     record { some-a = na; some-b = nb; bare-a = last-bare (codes a) na (x .back); bare-b = bare-front (codes b) nb (y .front) }
 
--- the join layer's text, where it fits
-layer-is : (a b : List Cell) → 0 < length a → 0 < length b → length (joint a b) ≤ 16384 → layered a b ≡ joint a b
-layer-is [] b la lb h = absurd (omega arith)
-layer-is (x ∷ a) [] la lb h = absurd (omega arith)
-layer-is (x ∷ a) (y ∷ b) la lb h = cond-true (leb (length (joint (x ∷ a) (y ∷ b))) 16384) _ _ (le-leb (length (joint (x ∷ a) (y ∷ b))) 16384 h)
-
 -- a reading of equal codes
 again : {s t : List ℕ} (us : List QueryTurn) → s ≡ t → Reading queries s us → Reading queries t us
 again us e h = subst (λ l. Reading queries l us) e h
 
-pub joins : (a b : List Cell) → Clean a → Clean b → 0 < length a → 0 < length b → Joins a b
-joins a b x y la lb =
+-- both with a comma between
+commas : (c d : Cell) (a b : List Cell) → Clean (c ∷ a) → Clean (d ∷ b) → Joins (c ∷ a) (d ∷ b) (joint (c ∷ a) (d ∷ b))
+commas c d cs ds x y =
+    let a : List Cell = c ∷ cs in
+    let b : List Cell = d ∷ ds in
+    let la : 0 < length a = omega arith in
+    let lb : 0 < length b = omega arith in
     let j = joinable a b x y la lb in
     let n : length (codes a) + 1 ≡ length a + 1 = ap (λ m. m + 1) (length-map a code) in
-    let c = clean-joint a b x y la lb in
-    let e : codes (trimmed (a ++ Byte 44 ∷ b)) ≡ codes a ++ 44 ∷ codes b = ap codes (c .once) ∙ joint-codes a b in
+    let k = clean-joint a b x y la lb in
+    let e : codes (trimmed (a ++ Byte 44 ∷ b)) ≡ codes a ++ 44 ∷ codes b = ap codes (k .once) ∙ joint-codes a b in
     record {
-      layer = layer-is a b la lb;
-      clean = c;
+      clean = k;
       both = λ us vs h k. let r = joined-reading (codes a) (codes b) j us vs (again us (ap codes (x .once)) (h .reading)) (again vs (ap codes (y .once)) (k .reading)) in (
         r .0,
         record { readable = readable-join a b (h .readable) (k .readable); reading = again (r .0) (sym e) (r .1) },
-        subst (λ m. Follow m us vs (r .0)) n (r .2),
+        subst (λ m. Moved m us vs (r .0)) n (r .2),
       );
       apart = λ ws h. let r = parted-reading (codes a) (codes b) j ws (again ws e (h .reading)) in
           let w = readable-split a b (h .readable) in (
@@ -123,6 +126,29 @@ joins a b x y la lb =
             r .1,
             record { readable = w .0; reading = again (r .0) (ap codes (sym (x .once))) (r .2) },
             record { readable = w .1; reading = again (r .1) (ap codes (sym (y .once))) (r .3) },
-            subst (λ m. Follow m (r .0) (r .1) ws) n (r .4),
+            subst (λ m. Moved m (r .0) (r .1) ws) n (r .4),
           );
     }
+
+-- the empty text has the empty reading and no other
+empty-holds : Holds [] []
+empty-holds = record { readable = record { bytes = tt; formed = refl }; reading = refl }
+
+empty-none : (us : List QueryTurn) → Holds [] us → us ≡ []
+empty-none us h = query-single [] us [] (h .reading) refl
+
+pub joins : (a b : List Cell) → Clean a → Clean b → Fit a b → Joins a b (joined a b)
+joins [] b x y f =
+    record {
+      clean = y;
+      both = λ us vs h k. (vs, k, sym (ap (λ u. queriesOf 0 u ++ queriesOf 0 vs) (empty-none us h)));
+      apart = λ ws h. ([], ws, empty-holds, h, refl);
+    }
+joins (c ∷ a) [] x y f =
+    record {
+      clean = x;
+      both = λ us vs h k. (us, h, sym (ap (λ v. queriesOf 0 us ++ map (moved (length (c ∷ a) + 1)) (queriesOf 0 v)) (empty-none vs k) ∙ append-nil (queriesOf 0 us)));
+      apart = λ ws h. (ws, [], h, empty-holds, sym (append-nil (queriesOf 0 ws)));
+    }
+joins (c ∷ a) (d ∷ b) x y f =
+    subst (λ l. Joins (c ∷ a) (d ∷ b) l) (sym (cond-true (leb (length (joint (c ∷ a) (d ∷ b))) 16384) (joint (c ∷ a) (d ∷ b)) overfull (le-leb (length (joint (c ∷ a) (d ∷ b))) 16384 f))) (commas c d a b x y)

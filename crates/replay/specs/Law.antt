@@ -2,13 +2,13 @@
 use mathlib.Core.Path.{_≡_}
 use mathlib.Core.Bool.{false}
 use mathlib.Core.List.{List, [], _∷_, _++_, map}
-use Prim.Native.Nat.{ℕ, _+_, _<_, _≤_}
+use Prim.Native.Nat.{ℕ, _+_, _≤_}
 use lib.ListN.{length, drop}
 use Rattle.std.specs.declared.result.Result.the-variants.{Ok, Err}
 use Rattle.texts.specs.declared.cell.Cell.{Cell}
 use Rattle.texts.specs.Codes.{codes}
 use Rattle.texts.specs.Trim.{trimmed, Clean}
-use Rattle.layers.specs.Joins.{joined as layered}
+use Rattle.layers.specs.Joins.{joined}
 use Rattle.grammar.specs.declared.query.SingleQuery.{SingleQuery}
 use Rattle.grammar.specs.Along.{queries}
 use Rattle.grammar.specs.Readings.{Turns, Reading, spelling}
@@ -62,18 +62,27 @@ Reads cells =
 abbrev pub Once : List Cell → Type 0
 Once cells = (us vs : List QueryTurn) → Holds cells us → Holds cells vs → us ≡ vs
 
--- the queries of ws are those of us and then those of vs, moved along by n
-abbrev pub Follow : ℕ → List QueryTurn → List QueryTurn → List QueryTurn → Type 0
-Follow n us vs ws = queriesOf 0 ws ≡ queriesOf 0 us ++ map (moved n) (queriesOf 0 vs)
+-- queries of a text that stands behind another, each place moved along by the cells that stand before the text
+abbrev pub behind : List Cell → List SingleQuery → List SingleQuery
+behind [] qs = qs
+behind (c ∷ cells) qs = map (moved (length (c ∷ cells) + 1)) qs
 
--- a and b with a comma between have a reading exactly when both have, and its queries are theirs
-pub record Joins (a b : List Cell) : Type 0 where
-  -- where it fits, it is the text of the join layer
-  pub layer : length (joint a b) ≤ 16384 → layered a b ≡ joint a b
+-- the queries of ws are those of us and then those of vs, which stands behind a
+abbrev pub Follow : List Cell → List QueryTurn → List QueryTurn → List QueryTurn → Type 0
+Follow a us vs ws = queriesOf 0 ws ≡ queriesOf 0 us ++ behind a (queriesOf 0 vs)
+
+-- two texts fit into one: both with a comma between, or one of them where the other is empty
+abbrev pub Fit : List Cell → List Cell → Type 0
+Fit [] b = Unit {0}
+Fit (c ∷ a) [] = Unit {0}
+Fit (c ∷ a) (d ∷ b) = length (joint (c ∷ a) (d ∷ b)) ≤ 16384
+
+-- a join of a and b has a reading exactly when both have, and its queries are theirs
+pub record Joins (a b join : List Cell) : Type 0 where
   -- no white space at the ends of the join either, so that a reader reads all of it
-  pub clean : Clean (joint a b)
-  pub both : (us vs : List QueryTurn) → Holds a us → Holds b vs → (ws : List QueryTurn) × Holds (joint a b) ws × Follow (length a + 1) us vs ws
-  pub apart : (ws : List QueryTurn) → Holds (joint a b) ws → (us : List QueryTurn) × (vs : List QueryTurn) × Holds a us × Holds b vs × Follow (length a + 1) us vs ws
+  pub clean : Clean join
+  pub both : (us vs : List QueryTurn) → Holds a us → Holds b vs → (ws : List QueryTurn) × Holds join ws × Follow a us vs ws
+  pub apart : (ws : List QueryTurn) → Holds join ws → (us : List QueryTurn) × (vs : List QueryTurn) × Holds a us × Holds b vs × Follow a us vs ws
 
 -- a reader of a text has made the exchanges xs and has k queries before its place
 pub record Law (cells : List Cell) (xs : List Exchange) (k : ℕ) : Type 0 where
@@ -82,8 +91,8 @@ pub record Law (cells : List Cell) (xs : List Exchange) (k : ℕ) : Type 0 where
   pub reads : Reads cells
   pub one : Once cells
   pub clean : Clean (trimmed cells)
-  -- of any two texts that are trimmed and not empty
-  pub joins : (a b : List Cell) → Clean a → Clean b → 0 < length a → 0 < length b → Joins a b
+  -- of any two texts that are trimmed, the join layer's join, if it fits
+  pub joins : (a b : List Cell) → Clean a → Clean b → Fit a b → Joins a b (joined a b)
 
 -- start accepted the text, and the calls were made on a reader of it
 pub record Replayed (cells : List Cell) (before after : List Exchange) (k : ℕ) : Type 0 where
