@@ -1,11 +1,10 @@
 // A whole statement, stepped through by one call.
 ghost use mathlib.Core.Path.{_≡_};
-ghost use mathlib.Core.Bool.{cond};
-ghost use Prim.Native.Nat.{ℕ, _*_, _/_, _≤_};
-ghost use lib.Dec.{ltb};
-ghost use lib.ListN.{length};
-ghost use lib.Seq.{paste};
-ghost use Rattle.exports.specs.Outcome.{outcomeOf, goesOn};
+ghost use Prim.Native.Nat.{ℕ};
+ghost use denote.Ref.{now};
+ghost use Rattle.texts.specs.Cells.{stored};
+ghost use Rattle.reader.specs.Steps.{shown};
+ghost use Rattle.exports.specs.Outcome.{outcomeOf, goesOn, putRecord, putOutcome, recorded, concluded, Read, ReadText};
 use crate::layout::words_of;
 use reader::reader::Reader;
 use reader::refusal::Refusal;
@@ -16,7 +15,7 @@ use texts::text::Text;
 
 // Record n of 24 words, where there is room for it; else nothing is written.
 fn put_record(records: &mut [u64], n: usize, words: &[u64; 24])
-    ensures { λ _. ⌜ now (records .exit) ≡ cond (ltb n (length (now (records .entry)) / 24)) (paste (now (records .entry)) (n * 24) (now (words .entry)) 24) (now (records .entry)) ⌝ }
+    ensures { λ _. ⌜ now (records .exit) ≡ putRecord (now (records .entry)) n (now (words .entry)) ⌝ }
 {
     if n < records.len() / 24 {
         let at = n * 24;
@@ -43,7 +42,7 @@ fn outcome_of(refusal: Refusal) -> [u64; 4]
 
 // The four words of an outcome, where there is room for them; else nothing is written.
 fn put_outcome(outcome: &mut [u64], words: &[u64; 4])
-    ensures { λ _. ⌜ now (outcome .exit) ≡ cond (ltb 3 (length (now (outcome .entry)))) (paste (now (outcome .entry)) 0 (now (words .entry)) 4) (now (outcome .entry)) ⌝ }
+    ensures { λ _. ⌜ now (outcome .exit) ≡ putOutcome (now (outcome .entry)) (now (words .entry)) ⌝ }
 {
     if outcome.len() > 3 {
         outcome[0..4].copy_from_slice(words);
@@ -57,7 +56,9 @@ fn put_step(
     n: usize,
     outcome: &mut [u64],
 ) -> bool
-    ensures { λ r. ⌜ r ≡ goesOn answer ⌝ }
+    ensures goes { λ r. ⌜ r ≡ goesOn answer ⌝ }
+    ensures written { λ _. ⌜ now (records .exit) ≡ recorded answer n (now (records .entry)) ⌝ }
+    ensures ended { λ _. ⌜ now (outcome .exit) ≡ concluded answer (now (outcome .entry)) ⌝ }
 {
     match answer {
         Ok(step) => match step {
@@ -79,7 +80,7 @@ fn put_step(
 
 // Steps up to "end" or a refusal, with a record for each query. Answers how many were given.
 fn read_all<T: Text>(reader: &mut Reader<T>, records: &mut [u64], outcome: &mut [u64]) -> usize
-    ensures { λ r. ⌜ r ≤ 16385 ⌝ }
+    ensures { λ r. ⌜ Read (shown (now (reader .entry) .text .start) (now (reader .entry) .text .end) (T·Text .cells (now (now (reader .entry) .text .inner)))) (now (reader .entry) .k) (now (reader .entry) .place) r (now (records .entry)) (now (records .exit)) (now (outcome .entry)) (now (outcome .exit)) ⌝ }
 {
     for n in 0..16385 {
         let answer = reader.step();
@@ -87,21 +88,29 @@ fn read_all<T: Text>(reader: &mut Reader<T>, records: &mut [u64], outcome: &mut 
             return n;
         }
     }
-    16385
+    // A query takes a byte at least, so that there are no more than 16,384.
+    unreachable()
+}
+
+// The queries of any text.
+pub fn read_text<T: Text>(text: &T, records: &mut [u64], outcome: &mut [u64]) -> usize
+    ensures { λ r. ⌜ ReadText (T·Text .cells (now (text .entry))) r (now (records .entry)) (now (records .exit)) (now (outcome .entry)) (now (outcome .exit)) ⌝ }
+{
+    match Reader::start(text) {
+        Ok(mut reader) => read_all(&mut reader, records, outcome),
+        Err(refusal) => {
+            put_outcome(outcome, &outcome_of(refusal));
+            0
+        }
+    }
 }
 
 // The queries of a statement in the caller's bytes: a record of 24 words for each that there is room for, and
 // four words that tell how it ended. Answers how many queries were given.
 #[unsafe(no_mangle)]
 pub extern "C" fn statement_read(bytes: &[u8], records: &mut [u64], outcome: &mut [u64]) -> u64
-    ensures { λ r. ⌜ r ≤ 16385 ⌝ }
+    ensures { λ r. ⌜ ReadText (stored (now (bytes .entry))) r (now (records .entry)) (now (records .exit)) (now (outcome .entry)) (now (outcome .exit)) ⌝ }
 {
     let store = ByteStore::new(bytes);
-    match Reader::start(&store) {
-        Ok(mut reader) => read_all(&mut reader, records, outcome) as u64,
-        Err(refusal) => {
-            put_outcome(outcome, &outcome_of(refusal));
-            0
-        }
-    }
+    read_text(&store, records, outcome) as u64
 }
