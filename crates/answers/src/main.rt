@@ -1,5 +1,7 @@
 // Replays stored answers of the source. A line of the input is a text in hexadecimal (`-` where it is empty), the
 // refusal's number, its place, and then the 24 words of each query given. Prints how many agree and which do not.
+#![tactic(auto)]
+
 ghost use Rattle.std.specs.Prelude.{ℕ, ◌≤◌, length};
 
 use exports::read::statement_read;

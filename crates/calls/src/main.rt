@@ -1,6 +1,8 @@
 // Makes a list of calls on a reader of a statement. The first line of the input is the statement; each later line is a
 // call: `step`, `back`, `over` or `place`. Prints each answer beside its call, and then how many queries stand before
 // the place. `#` begins a comment in the statement: the reader stands over a cover.
+#![tactic(auto)]
+
 use layers::cover::Cover;
 use listing::{print_query, print_refusal};
 use replay::calls::{Answer, Call, Exchange};

@@ -1,4 +1,6 @@
 // The chain store: a memory of numbered records, each with the number of the next, read as a text.
+#![tactic(auto)]
+
 mod damage;
 mod record;
 pub mod store;

@@ -1,5 +1,7 @@
 // For programs: the queries of a text as lines on standard output. A contract cannot say what is printed, so these
 // functions promise nothing but to be safe and to end.
+#![tactic(auto)]
+
 use grammar::query::SingleQuery;
 use reader::reader::Reader;
 use reader::refusal::Refusal;

@@ -1,4 +1,6 @@
 // The switch's own pile: its chain memory under a cover, joined with the site's bytes, trimmed.
+#![tactic(auto)]
+
 ghost use Rattle.std.specs.Result.{MatchResult};
 ghost use Rattle.texts.specs.Cells.{stored};
 ghost use Rattle.texts.specs.Trim.{trimmed};

@@ -1,4 +1,6 @@
 // Piles of layers over chain memories, good and damaged, as they are shown.
+#![tactic(auto)]
+
 mod memory;
 mod show;
 

@@ -1,5 +1,7 @@
 // Reads a support statement from standard input and prints a line for each of its queries:
 // raw start, raw end, negated, is_and and the name of the form; then `ok` and how many, or `refused`, number and place.
+#![tactic(auto)]
+
 ghost use Rattle.std.specs.Prelude.{ℕ, ◌≤◌, length, IfOk};
 
 use listing::print_reading;

@@ -1,4 +1,6 @@
 // The reader: what it refuses, the checks that come at start, and the steps.
+#![tactic(auto)]
+
 pub mod reader;
 pub mod refusal;
 pub mod start;

@@ -1,4 +1,6 @@
 // Scanners over any text: each looks at the text from a place on, and moves the place behind what it takes.
+#![tactic(auto)]
+
 pub mod class;
 pub mod number;
 pub mod range;

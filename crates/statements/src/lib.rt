@@ -1,3 +1,5 @@
 // Statements tried: what the reader answers to examples, field by field.
+#![tactic(auto)]
+
 #[cfg(test)]
 mod tests;

@@ -1,4 +1,6 @@
 // Readings of any text, written as numbers into slices that the caller lends.
+#![tactic(auto)]
+
 pub mod copy;
 pub mod field;
 pub mod fill;

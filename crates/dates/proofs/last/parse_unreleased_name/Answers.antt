@@ -6,4 +6,4 @@ use Rattle.dates.proofs.last.parse_unreleased_name.Goals as goal
 
 pub returns : goal.returns
 returns g c =
-    named_free versions (codes (g.T.Text.cells c.args.text.now)) c.args.place.now c.parse-name.new.place c.parse-name.result (sym c.if-is-versions.ensures) c.parse-name.ensures
+    named_free versions (codes (g.T.Text.cells c.args.text.now)) c.args.place.now c.parse_name.new.place c.parse_name.result (sym c.if-is_versions.ensures) c.parse_name.ensures

@@ -8,5 +8,5 @@ pub returns-then-outcome-gt3 : goal.returns-then-outcome-gt3
 returns-then-outcome-gt3 c =
     let xs = c.args.outcome.now in
     let ws = c.args.words.now in
-    put_mid-paste 0 4 xs c.copy-from-slice.new.self ws 4 c.copy-from-slice.ensures.after refl (search rules)
+    put_mid-paste 0 4 xs c.copy_from_slice.new.self ws 4 c.copy_from_slice.ensures.after refl (search rules)
     ∙ sym (cond-true (ltb 3 (length xs)) (paste xs 0 ws 4) xs (lt-ltb 3 (length xs) c.if-outcome-gt3.true))

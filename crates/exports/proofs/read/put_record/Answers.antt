@@ -10,5 +10,5 @@ returns-then-n-records c =
     let ws = c.args.words.now in
     let n = c.args.n in
     let k : 24 ≡ (n * 24 + 24) - n * 24 = omega arith in
-    put_mid-paste (n * 24) ((n * 24 + 24) - n * 24) xs c.copy-from-slice.new.self ws 24 c.copy-from-slice.ensures.after k (search rules)
+    put_mid-paste (n * 24) ((n * 24 + 24) - n * 24) xs c.copy_from_slice.new.self ws 24 c.copy_from_slice.ensures.after k (search rules)
     ∙ sym (cond-true (ltb n (length xs / 24)) (paste xs (n * 24) ws 24) xs (lt-ltb n (length xs / 24) c.if-n-records.true))

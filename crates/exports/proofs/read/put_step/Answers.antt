@@ -10,6 +10,6 @@ returns-in-Given c =
     let e : c.args.answer ≡ Ok (Given c.in-Given.query) = c.in-Ok.is ∙ ap Ok c.in-Given.is in
     record {
       goes = sym (ap goes_on e);
-      written = c.put-record.ensures ∙ (ap (put_record rs n) c.words-of.ensures ∙ sym (ap (λ a. recorded a n rs) e));
+      written = c.put_record.ensures ∙ (ap (put_record rs n) c.words_of.ensures ∙ sym (ap (λ a. recorded a n rs) e));
       ended = sym (ap (λ a. concluded a c.args.outcome.now) e);
     }

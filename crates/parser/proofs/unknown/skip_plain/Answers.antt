@@ -11,12 +11,12 @@ loop-place-init g c = refl
 
 pub loop-place-smaller : goal.loop-place-smaller
 loop-place-smaller g c =
-    let s = strode (codes (g.T.Text.cells c.args.text.now)) c.loop-place.place c.take-stride.new.place (sym c.loop-place-test.ensures) c.take-stride.ensures in
+    let s = strode (codes (g.T.Text.cells c.args.text.now)) c.loop-place.place c.take_stride.new.place (sym c.loop-place-test.ensures) c.take_stride.ensures in
     omega (arith, s.on, s.inside)
 
 pub loop-place-preserved : goal.loop-place-preserved
 loop-place-preserved g c =
-    let s = strode (codes (g.T.Text.cells c.args.text.now)) c.loop-place.place c.take-stride.new.place (sym c.loop-place-test.ensures) c.take-stride.ensures in
+    let s = strode (codes (g.T.Text.cells c.args.text.now)) c.loop-place.place c.take_stride.new.place (sym c.loop-place-test.ensures) c.take_stride.ensures in
     sym s.rest ∙ c.loop-place.invariant
 
 pub returns : goal.returns

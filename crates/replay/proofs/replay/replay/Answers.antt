@@ -14,8 +14,8 @@ use Rattle.replay.proofs.replay.replay.Goals as goal
 pub loop-i-init : goal.loop-i-init
 loop-i-init g c =
     let t = codes (trimmed (g.T.Text.cells c.args.text.now)) in
-    let h = c.in-ok-reader.ensures in
-    (h.1, subst (λ k. Stands t k c.in-ok-reader.reader.place) (sym h.2) (h.3, tt), subst (Runs t 0 []) (sym h.2) none, refl)
+    let h = c.in_ok-reader.ensures in
+    (h.1, subst (λ k. Stands t k c.in_ok-reader.reader.place) (sym h.2) (h.3, tt), subst (Runs t 0 []) (sym h.2) none, refl)
 
 pub loop-i-preserved : goal.loop-i-preserved
 loop-i-preserved g c =
@@ -43,7 +43,7 @@ returns g c =
     let all : take c.loop-i.i xs ≡ xs = take_all c.loop-i.i xs (omega (arith, c.loop-i-test.false, c.loop-i.auto.exchanges)) in
     let k : r.k ≡ c.count.result = sym c.count.ensures in
     record {
-      readable = accepted_readable cells c.in-ok-reader.ensures.0;
+      readable = accepted_readable cells c.in_ok-reader.ensures.0;
       law = record {
         runs = subst (Runs t 0 xs) k (subst (λ l. Runs t 0 l r.k) all c.loop-i.invariant.2);
         spelt = spelt t c.count.result (subst (λ n. Stands t n r.place) k c.loop-i.invariant.1).1;
@@ -55,7 +55,7 @@ returns g c =
       calls = c.loop-i.invariant.3;
     }
 
-pub returns-in-err-reader : goal.returns-in-err-reader
-returns-in-err-reader g c =
+pub returns-in_err-reader : goal.returns-in_err-reader
+returns-in_err-reader g c =
     let refused = refused_unreadable (g.T.Text.cells c.args.text.now) in
     search (rules, refused)

@@ -9,8 +9,8 @@ use Rattle.scanner.proofs.number.digits_u32.Goals as goal
 pub loop-n-init : goal.loop-n-init
 loop-n-init g c = counted_none (λ v. v % 4294967296) (codes (g.T.Text.cells c.args.text.now)) c.args.place.now refl
 
-pub overflow-add-place : goal.overflow-add-place
-overflow-add-place g c =
+pub overflow_add-place : goal.overflow_add-place
+overflow_add-place g c =
     let cs = g.T.Text.cells c.args.text.now in
     next_fits cs c.loop-n.place (g.T.Text.short c.args.text.now) (digit_inside (codes cs) c.loop-n.place (sym c.loop-n-test.ensures))
 
@@ -23,7 +23,7 @@ loop-n-preserved g c =
     let s = c.args.place.now in
     let p = c.loop-n.place in
     counted_more (λ v. v % 4294967296) t s p c.loop-n.n _ (sym c.loop-n-test.ensures) c.loop-n.invariant
-    (wrapped_more 4294967296 (value (between t s p)) c.loop-n.n c.from.result (get_or t p 256) c.loop-n.invariant.sofar (c.from.ensures ∙ c.digit-at.ensures))
+    (wrapped_more 4294967296 (value (between t s p)) c.loop-n.n c.from.result (get_or t p 256) c.loop-n.invariant.sofar (c.from.ensures ∙ c.digit_at.ensures))
 
 pub returns : goal.returns
 returns g c =

@@ -6,4 +6,4 @@ use Rattle.scanner.proofs.number.parse_u32.Goals as goal
 
 pub returns : goal.returns
 returns g c =
-    read_digits calendar (codes (g.T.Text.cells c.args.text.now)) c.args.place.now c.digits-u32.new.place c.digits-u32.result (sym c.if-not-peek.ensures) c.digits-u32.ensures.took c.digits-u32.ensures.value
+    read_digits calendar (codes (g.T.Text.cells c.args.text.now)) c.args.place.now c.digits_u32.new.place c.digits_u32.result (sym c.if-not-peek.ensures) c.digits_u32.ensures.took c.digits_u32.ensures.value

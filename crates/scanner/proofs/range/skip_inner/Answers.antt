@@ -9,8 +9,8 @@ use Rattle.scanner.proofs.range.skip_inner.Goals as goal
 pub loop-place-init : goal.loop-place-init
 loop-place-init g c = refl
 
-pub overflow-add-place : goal.overflow-add-place
-overflow-add-place g c =
+pub overflow_add-place : goal.overflow_add-place
+overflow_add-place g c =
     let cs = g.T.Text.cells c.args.text.now in
     next_fits cs c.loop-place.place (g.T.Text.short c.args.text.now) (inner_inside (codes cs) c.loop-place.place (sym c.loop-place-test.ensures))
 

@@ -4,8 +4,8 @@ use Rattle.grammar.specs.Classes.{lower}
 use Rattle.scanner.proofs.Inside.{inside_is, next_fits}
 use Rattle.scanner.proofs.scan.eat_folded.Goals as goal
 
-pub overflow-add-place : goal.overflow-add-place
-overflow-add-place g c =
+pub overflow_add-place : goal.overflow_add-place
+overflow_add-place g c =
     let cs = g.T.Text.cells c.args.text.now in
     next_fits cs c.args.place.now (g.T.Text.short c.args.text.now)
-    (inside_is lower (codes cs) c.args.place.now c.from.result refl (sym (c.lowered.ensures ∙ ap lower c.code-at.ensures) ∙ c.if-lowered-from.true) (omega arith))
+    (inside_is lower (codes cs) c.args.place.now c.from.result refl (sym (c.lowered.ensures ∙ ap lower c.code_at.ensures) ∙ c.if-lowered-from.true) (omega arith))

@@ -7,8 +7,8 @@ use Rattle.scanner.proofs.Spans.{fits, Taken, taken, untaken, span_more, span_st
 use Rattle.scanner.proofs.scan.skip_class.Given as given
 use Rattle.scanner.proofs.scan.skip_class.Goals as goal
 
-step : (g : given.Over) (c : goal.In-loop-class g) → Taken (within c.args.class) (codes (g.T.Text.cells c.args.text.now)) c.loop-class.place c.eat-class.new.place
-step g c = taken (within c.args.class) (codes (g.T.Text.cells c.args.text.now)) c.loop-class.place c.eat-class.new.place c.loop-class-test.ensures
+step : (g : given.Over) (c : goal.In-loop-class g) → Taken (within c.args.class) (codes (g.T.Text.cells c.args.text.now)) c.loop-class.place c.eat_class.new.place
+step g c = taken (within c.args.class) (codes (g.T.Text.cells c.args.text.now)) c.loop-class.place c.eat_class.new.place c.loop-class-test.ensures
 
 within_text : (g : given.Over) (c : goal.In-loop-class g) → c.loop-class.place < length (codes (g.T.Text.cells c.args.text.now))
 within_text g c =
@@ -34,7 +34,7 @@ returns g c =
     let f = fits (look (within c.args.class)) in
     let h = c.loop-class-test.ensures in
     let p = c.loop-class.place in
-    let stop = span_stop f t p (looks (within c.args.class) t p ∙ untaken (within c.args.class) t p c.eat-class.new.place h) in
+    let stop = span_stop f t p (looks (within c.args.class) t p ∙ untaken (within c.args.class) t p c.eat_class.new.place h) in
     let stays = h.1 in
-    let e : c.args.place.now + span f (drop c.args.place.now t) ≡ c.eat-class.new.place = omega (arith, stop, stays, c.loop-class.invariant) in
+    let e : c.args.place.now + span f (drop c.args.place.now t) ≡ c.eat_class.new.place = omega (arith, stop, stays, c.loop-class.invariant) in
     ap Some e

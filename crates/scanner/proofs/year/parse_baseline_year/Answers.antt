@@ -10,10 +10,10 @@ pub returns : goal.returns
 returns g c =
     let t = codes (g.T.Text.cells c.args.text.now) in
     let p = c.args.place.now in
-    let q = c.digits-capped-value.new.place in
+    let q = c.digits_capped-value.new.place in
     let d = sym c.if-not-peek.ensures in
-    let e = c.digits-capped-value.ensures.took in
-    read_digits baseline_year t p q c.kind-of-year.result d e
-    (c.kind-of-year.ensures
-    ∙ (capped_kind c.digits-capped-value.result (value (between t p q)) (q - p) c.digits-capped-value.ensures.value
+    let e = c.digits_capped-value.ensures.took in
+    read_digits baseline_year t p q c.kind_of_year.result d e
+    (c.kind_of_year.ensures
+    ∙ (capped_kind c.digits_capped-value.result (value (between t p q)) (q - p) c.digits_capped-value.ensures.value
     ∙ sym (ap (year_kind (value (between t p q))) (length_between t p q (digits_within t p q d e)))))

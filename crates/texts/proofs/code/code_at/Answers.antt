@@ -4,7 +4,7 @@ use Rattle.texts.proofs.code.code_at.Goals as goal
 
 pub returns-in-Ok : goal.returns-in-Ok
 returns-in-Ok g c =
-    c.code-of.ensures ∙ (ap answer_code c.in-Ok.ensures ∙ code_of_answer (g.T.Text.cells c.args.text.now) c.args.place)
+    c.code_of.ensures ∙ (ap answer_code c.in-Ok.ensures ∙ code_of_answer (g.T.Text.cells c.args.text.now) c.args.place)
 
 pub returns-in-Err : goal.returns-in-Err
 returns-in-Err g c = ap answer_code c.in-Err.ensures ∙ code_of_answer (g.T.Text.cells c.args.text.now) c.args.place

@@ -4,7 +4,7 @@ use Rattle.texts.proofs.space.code_behind.Goals as goal
 
 pub returns-then-place-n : goal.returns-then-place-n
 returns-then-place-n g c =
-    code_from_behind (g.T.Text.cells c.args.text.now) c.args.place c.len-n.result c.code-at.result c.len-n.ensures c.if-place-n.true c.code-at.ensures
+    code_from_behind (g.T.Text.cells c.args.text.now) c.args.place c.len-n.result c.code_at.result c.len-n.ensures c.if-place-n.true c.code_at.ensures
 
 pub returns-else-place-n : goal.returns-else-place-n
 returns-else-place-n g c =

@@ -8,15 +8,15 @@ use Rattle.texts.proofs.space.space_behind.Goals as goal
 
 pub returns-then-wide-eq0 : goal.returns-then-wide-eq0
 returns-then-wide-eq0 g c =
-    leading_stop space_back (reverse (codes (g.T.Text.cells c.args.text.now))) c.loop-place.place c.space-back-wide.result (behind (codes (g.T.Text.cells c.args.text.now))) c.code-behind.result c.code-behind-in-loop-place.result c.code-behind-in-loop-place-2.result (omega (arith, length-map (g.T.Text.cells c.args.text.now) code, length-reverse (codes (g.T.Text.cells c.args.text.now)))) c.code-behind.ensures c.code-behind-in-loop-place.ensures c.code-behind-in-loop-place-2.ensures c.space-back-wide.ensures c.loop-place.invariant c.if-wide-eq0.true
+    leading_stop space_back (reverse (codes (g.T.Text.cells c.args.text.now))) c.loop-place.place c.space_back-wide.result (behind (codes (g.T.Text.cells c.args.text.now))) c.code_behind.result c.code_behind-in-loop-place.result c.code_behind-in-loop-place-2.result (omega (arith, length-map (g.T.Text.cells c.args.text.now) code, length-reverse (codes (g.T.Text.cells c.args.text.now)))) c.code_behind.ensures c.code_behind-in-loop-place.ensures c.code_behind-in-loop-place-2.ensures c.space_back-wide.ensures c.loop-place.invariant c.if-wide-eq0.true
 
-pub overflow-add-place-in-loop-place-2 : goal.overflow-add-place-in-loop-place-2
-overflow-add-place-in-loop-place-2 g c =
-    omega (arith, g.T.Text.short c.args.text.now, back_wide c.space-back-wide.result c.code-behind-in-loop-place-2.result c.code-behind-in-loop-place.result c.code-behind.result c.space-back-wide.ensures)
+pub overflow_add-place-in-loop-place-2 : goal.overflow_add-place-in-loop-place-2
+overflow_add-place-in-loop-place-2 g c =
+    omega (arith, g.T.Text.short c.args.text.now, back_wide c.space_back-wide.result c.code_behind-in-loop-place-2.result c.code_behind-in-loop-place.result c.code_behind.result c.space_back-wide.ensures)
 
 pub loop-place-preserved : goal.loop-place-preserved
 loop-place-preserved g c =
-    leading_more space_back (reverse (codes (g.T.Text.cells c.args.text.now))) c.loop-place.place c.space-back-wide.result (behind (codes (g.T.Text.cells c.args.text.now))) c.code-behind.result c.code-behind-in-loop-place.result c.code-behind-in-loop-place-2.result (omega (arith, length-map (g.T.Text.cells c.args.text.now) code, length-reverse (codes (g.T.Text.cells c.args.text.now)))) c.code-behind.ensures c.code-behind-in-loop-place.ensures c.code-behind-in-loop-place-2.ensures c.space-back-wide.ensures c.loop-place.invariant c.if-wide-eq0.false
+    leading_more space_back (reverse (codes (g.T.Text.cells c.args.text.now))) c.loop-place.place c.space_back-wide.result (behind (codes (g.T.Text.cells c.args.text.now))) c.code_behind.result c.code_behind-in-loop-place.result c.code_behind-in-loop-place-2.result (omega (arith, length-map (g.T.Text.cells c.args.text.now) code, length-reverse (codes (g.T.Text.cells c.args.text.now)))) c.code_behind.ensures c.code_behind-in-loop-place.ensures c.code_behind-in-loop-place-2.ensures c.space_back-wide.ensures c.loop-place.invariant c.if-wide-eq0.false
 
 pub returns : goal.returns
 returns g c =

@@ -7,15 +7,15 @@ use Rattle.texts.proofs.space.space_in_front.Goals as goal
 
 pub returns-then-wide-eq0 : goal.returns-then-wide-eq0
 returns-then-wide-eq0 g c =
-    leading_stop space_from (codes (g.T.Text.cells c.args.text.now)) c.loop-place.place c.space-from-wide.result (in_front (codes (g.T.Text.cells c.args.text.now))) c.code-at.result c.code-at-in-loop-place.result c.code-at-in-loop-place-2.result (omega (arith, length-map (g.T.Text.cells c.args.text.now) code)) c.code-at.ensures c.code-at-in-loop-place.ensures c.code-at-in-loop-place-2.ensures c.space-from-wide.ensures c.loop-place.invariant c.if-wide-eq0.true
+    leading_stop space_from (codes (g.T.Text.cells c.args.text.now)) c.loop-place.place c.space_from-wide.result (in_front (codes (g.T.Text.cells c.args.text.now))) c.code_at.result c.code_at-in-loop-place.result c.code_at-in-loop-place-2.result (omega (arith, length-map (g.T.Text.cells c.args.text.now) code)) c.code_at.ensures c.code_at-in-loop-place.ensures c.code_at-in-loop-place-2.ensures c.space_from-wide.ensures c.loop-place.invariant c.if-wide-eq0.true
 
-pub overflow-add-place-in-loop-place-2 : goal.overflow-add-place-in-loop-place-2
-overflow-add-place-in-loop-place-2 g c =
-    omega (arith, g.T.Text.short c.args.text.now, front_wide c.space-from-wide.result c.code-at.result c.code-at-in-loop-place.result c.code-at-in-loop-place-2.result c.space-from-wide.ensures)
+pub overflow_add-place-in-loop-place-2 : goal.overflow_add-place-in-loop-place-2
+overflow_add-place-in-loop-place-2 g c =
+    omega (arith, g.T.Text.short c.args.text.now, front_wide c.space_from-wide.result c.code_at.result c.code_at-in-loop-place.result c.code_at-in-loop-place-2.result c.space_from-wide.ensures)
 
 pub loop-place-preserved : goal.loop-place-preserved
 loop-place-preserved g c =
-    leading_more space_from (codes (g.T.Text.cells c.args.text.now)) c.loop-place.place c.space-from-wide.result (in_front (codes (g.T.Text.cells c.args.text.now))) c.code-at.result c.code-at-in-loop-place.result c.code-at-in-loop-place-2.result (omega (arith, length-map (g.T.Text.cells c.args.text.now) code)) c.code-at.ensures c.code-at-in-loop-place.ensures c.code-at-in-loop-place-2.ensures c.space-from-wide.ensures c.loop-place.invariant c.if-wide-eq0.false
+    leading_more space_from (codes (g.T.Text.cells c.args.text.now)) c.loop-place.place c.space_from-wide.result (in_front (codes (g.T.Text.cells c.args.text.now))) c.code_at.result c.code_at-in-loop-place.result c.code_at-in-loop-place-2.result (omega (arith, length-map (g.T.Text.cells c.args.text.now) code)) c.code_at.ensures c.code_at-in-loop-place.ensures c.code_at-in-loop-place-2.ensures c.space_from-wide.ensures c.loop-place.invariant c.if-wide-eq0.false
 
 pub returns : goal.returns
 returns g c =

@@ -6,7 +6,7 @@ use Rattle.whole.proofs.nth.nth_query.Goals as goal
 pub returns : goal.returns
 returns g c =
     let cells = g.T.Text.cells c.args.text.now in
-    let o = c.in-ok-reader.reader.text in
+    let o = c.in_ok-reader.reader.text in
     let t = shown o.start o.end (g.T.Text.cells o.inner.now) in
-    let h = c.in-ok-reader.ensures in
-    found cells t c.args.k c.walk-through-walk.result (record { k = c.args.k; found = None }) c.walk-through-walk.new.sink c.found-by.result h.0 h.1 refl refl c.walk-through-walk.ensures.walked c.found-by.ensures
+    let h = c.in_ok-reader.ensures in
+    found cells t c.args.k c.walk_through-walk.result (record { k = c.args.k; found = None }) c.walk_through-walk.new.sink c.found_by.result h.0 h.1 refl refl c.walk_through-walk.ensures.walked c.found_by.ensures

@@ -7,12 +7,12 @@ use Rattle.whole.proofs.walk.step_through.Goals as goal
 
 pub loop-n-init : goal.loop-n-init
 loop-n-init g c =
-    let r = c.start-over.new.self in
-    (refl, [], sofar_none (shown r.text.start r.text.end (g.T.Text.cells r.text.inner.now)) r.k r.place c.start-over.ensures.count c.start-over.ensures.after, refl)
+    let r = c.start_over.new.self in
+    (refl, [], sofar_none (shown r.text.start r.text.end (g.T.Text.cells r.text.inner.now)) r.k r.place c.start_over.ensures.count c.start_over.ensures.after, refl)
 
 pub loop-n-preserved : goal.loop-n-preserved
 loop-n-preserved g c =
-    let o = c.start-over.new.self.text in
+    let o = c.start_over.new.self.text in
     let t = shown o.start o.end (g.T.Text.cells o.inner.now) in
     let r = c.loop-n.reader in
     let r' = c.step.new.self in
@@ -29,18 +29,18 @@ loop-n-preserved g c =
 
 pub returns-in-End : goal.returns-in-End
 returns-in-End g c =
-    let o = c.start-over.new.self.text in
+    let o = c.start_over.new.self.text in
     let t = shown o.start o.end (g.T.Text.cells o.inner.now) in
     let r = c.loop-n.reader in
     let inv = c.loop-n.invariant in
     let was : c.step.result ≡ Ok End = c.in-Ok.is ∙ ap Ok c.in-End.is in
     let is : Ok End ≡ stepped t r.k r.place = sym was ∙ (c.step.ensures.value ∙ ap (λ x. stepped (shown x.start x.end (g.T.Text.cells x.inner.now)) r.k r.place) inv.0) in
     record {
-      same = c.step.ensures.same ∙ (inv.0 ∙ c.start-over.ensures.same);
+      same = c.step.ensures.same ∙ (inv.0 ∙ c.start_over.ensures.same);
       walked = record {
         given = inv.1;
         stop = None;
-        walk = subst (λ x. Walked x inv.1 None) (ap (λ x. shown x.start x.end (g.T.Text.cells x.inner.now)) c.start-over.ensures.same) (sofar_end t c.loop-n.n r.k r.place inv.1 inv.2 is);
+        walk = subst (λ x. Walked x inv.1 None) (ap (λ x. shown x.start x.end (g.T.Text.cells x.inner.now)) c.start_over.ensures.same) (sofar_end t c.loop-n.n r.k r.place inv.1 inv.2 is);
         many = sym inv.2.many;
         answer = ap Ok (sym inv.2.many);
         taken = inv.3;
@@ -49,7 +49,7 @@ returns-in-End g c =
 
 pub returns-in-Err : goal.returns-in-Err
 returns-in-Err g c =
-    let o = c.start-over.new.self.text in
+    let o = c.start_over.new.self.text in
     let t = shown o.start o.end (g.T.Text.cells o.inner.now) in
     let r = c.loop-n.reader in
     let inv = c.loop-n.invariant in
@@ -57,11 +57,11 @@ returns-in-Err g c =
     let is : Err e ≡ stepped t r.k r.place = sym c.in-Err.is ∙ (c.step.ensures.value ∙ ap (λ x. stepped (shown x.start x.end (g.T.Text.cells x.inner.now)) r.k r.place) inv.0) in
     let w = sofar_lack t c.loop-n.n r.k r.place inv.1 e inv.2 is in
     record {
-      same = c.step.ensures.same ∙ (inv.0 ∙ c.start-over.ensures.same);
+      same = c.step.ensures.same ∙ (inv.0 ∙ c.start_over.ensures.same);
       walked = record {
         given = inv.1;
         stop = Some w.0;
-        walk = subst (λ x. Walked x inv.1 (Some w.0)) (ap (λ x. shown x.start x.end (g.T.Text.cells x.inner.now)) c.start-over.ensures.same) w.2;
+        walk = subst (λ x. Walked x inv.1 (Some w.0)) (ap (λ x. shown x.start x.end (g.T.Text.cells x.inner.now)) c.start_over.ensures.same) w.2;
         many = sym inv.2.many;
         answer = ap Err w.1;
         taken = inv.3;

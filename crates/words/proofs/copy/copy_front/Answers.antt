@@ -9,5 +9,5 @@ returns c =
     let bytes = c.args.bytes.now in
     let n = c.min-n.result in
     let wide : n ≡ n - 0 = omega arith in
-    put_mid-paste 0 (n - 0) out c.copy-from-slice.new.self (take n bytes) n (search rules) wide (omega (arith, length-take n bytes, c.min-n.ensures))
+    put_mid-paste 0 (n - 0) out c.copy_from_slice.new.self (take n bytes) n (search rules) wide (omega (arith, length-take n bytes, c.min-n.ensures))
     ∙ paste_front out bytes n c.min-n.ensures

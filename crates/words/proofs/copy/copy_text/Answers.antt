@@ -9,7 +9,7 @@ loop-place-preserved g c =
     let cells = g.T.Text.cells c.args.text.now in
     let i = c.loop-place.place in
     let h : i < length cells = omega (arith, c.loop-place-test.true, c.min-place-end.ensures, c.len-n.ensures) in
-    copy_more c.args.out.now (map byte_shown cells) c.loop-place.out i c.shown-at.result (omega (arith, length-map cells byte_shown)) (omega (arith, c.loop-place-test.true, c.min-place-end.ensures)) (c.shown-at.ensures ∙ shown_cell cells i h) c.loop-place.invariant
+    copy_more c.args.out.now (map byte_shown cells) c.loop-place.out i c.shown_at.result (omega (arith, length-map cells byte_shown)) (omega (arith, c.loop-place-test.true, c.min-place-end.ensures)) (c.shown_at.ensures ∙ shown_cell cells i h) c.loop-place.invariant
 
 pub returns : goal.returns
 returns g c =

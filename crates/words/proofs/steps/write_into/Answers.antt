@@ -5,8 +5,8 @@ use Rattle.words.proofs.steps.write_into.Goals as goal
 pub returns : goal.returns
 returns g c =
     let a = c.args.slices.now in
-    let b = c.walk-through.new.sink in
-    let w = c.walk-through.ensures.walked in
+    let b = c.walk_through.new.sink in
+    let w = c.walk_through.ensures.walked in
     let same = same_slices a b 0 0 w.given w.taken in
     let all = write_all a.queries.now a.separators.now a b 0 0 [] w.given refl refl refl refl w.taken in
     record {

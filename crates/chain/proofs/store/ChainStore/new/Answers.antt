@@ -2,8 +2,8 @@ use Rattle.std.proofs.Common.{refl}
 use Rattle.chain.proofs.Damaged.{chain_is}
 use Rattle.chain.proofs.store.ChainStore.new.Goals as goal
 
-pub invariant-of-result : goal.invariant-of-result
-invariant-of-result c = (c.walk-along-walk.ensures.within, (c.walk-along-walk.ensures.places, (∣ c.walk-along-walk.ensures.whole ∣₁, tt)))
+pub invariant_of-result : goal.invariant_of-result
+invariant_of-result c = (c.walk_along-walk.ensures.within, (c.walk_along-walk.ensures.places, (∣ c.walk_along-walk.ensures.whole ∣₁, tt)))
 
 pub returns : goal.returns
 returns c = record { memory = refl; first = refl; chain = chain_is c.args.memory.now c.args.first }

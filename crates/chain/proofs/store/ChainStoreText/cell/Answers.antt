@@ -10,7 +10,7 @@ returns-then-place-size c =
     let text = gathered c.args.self.now.memory.now c.args.self.now.walk.froms c.args.self.now.walk.starts c.args.self.now.walk.taken in
     let whole = outright (chained c.args.self.now.memory.now c.args.self.now.first) (bytes text ++ ending c.args.self.now.walk.damage) c.args.self.now.whole in
     let size : c.size-size.result ≡ length text = c.size-size.ensures.value ∙ sym (c.args.self.now.places c.args.self.now.walk.taken (omega arith)) in
-    answer_byte (chained c.args.self.now.memory.now c.args.self.now.first) text c.args.self.now.walk.damage c.size-size.result c.args.place whole size c.byte-at.result c.if-place-size.true c.byte-at.ensures
+    answer_byte (chained c.args.self.now.memory.now c.args.self.now.first) text c.args.self.now.walk.damage c.size-size.result c.args.place whole size c.byte_at.result c.if-place-size.true c.byte_at.ensures
 
 pub returns-then-place-size-2 : goal.returns-then-place-size-2
 returns-then-place-size-2 c =

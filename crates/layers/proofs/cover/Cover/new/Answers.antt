@@ -7,5 +7,5 @@ pub returns : goal.returns
 returns g c =
     record {
       below = refl;
-      meaning = covering (marked c.comments-of-comments.result.words) (g.T.Text.cells c.args.inner) c.comments-of-comments.ensures;
+      meaning = covering (marked c.comments_of-comments.result.words) (g.T.Text.cells c.args.inner) c.comments_of-comments.ensures;
     }

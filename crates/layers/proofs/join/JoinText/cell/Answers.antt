@@ -5,7 +5,7 @@ use Rattle.layers.proofs.join.JoinText.cell.Goals as goal
 
 pub returns-then-m-n-gt16384 : goal.returns-then-m-n-gt16384
 returns-then-m-n-gt16384 g c =
-    c.overfull-cell.ensures
+    c.overfull_cell.ensures
     ∙ sym (ap (λ l. answer l c.args.place) (overflows (g.X.Text.cells c.args.self.now.first) (g.Y.Text.cells c.args.self.now.second) (omega arith) (omega arith) (omega arith)))
 
 pub returns-then-place-m : goal.returns-then-place-m

@@ -12,8 +12,8 @@ returns-then-self-len g c =
     let cs = between s.text.start s.text.end (g.T.Text.cells s.text.inner.now) in
     record { same = refl; value = stepped_end (shown s.text.start s.text.end (g.T.Text.cells s.text.inner.now)) s.k s.place (omega (arith, c.len.ensures, length-map cs code, c.if-self-len.true)); count = refl; after = refl }
 
-pub invariant-of-self : goal.invariant-of-self
-invariant-of-self g c =
+pub invariant_of-self : goal.invariant_of-self
+invariant_of-self g c =
     let s = c.args.self.now in
     let below = g.T.Text.cells s.text.inner.now in
     let cs = between s.text.start s.text.end below in

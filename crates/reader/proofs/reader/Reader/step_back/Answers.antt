@@ -5,10 +5,10 @@ use Rattle.texts.specs.Trim.{between, between_short}
 use Rattle.reader.proofs.Places.{place_fits}
 use Rattle.reader.proofs.reader.Reader.step_back.Goals as goal
 
-pub invariant-of-self : goal.invariant-of-self
-invariant-of-self g c =
+pub invariant_of-self : goal.invariant_of-self
+invariant_of-self g c =
     let s = c.args.self.now in
     let below = g.T.Text.cells s.text.inner.now in
     let cs = between s.text.start s.text.end below in
     let l = between_short s.text.start s.text.end below (g.T.Text.short s.text.inner.now) in
-    (omega (arith, c.max-place.ensures), (omega (arith, c.max-place.ensures, c.place-of.ensures, place_fits (codes cs) (s.k - 1), length-map cs code, l, s.within, s.short), tt))
+    (omega (arith, c.max-place.ensures), (omega (arith, c.max-place.ensures, c.place_of.ensures, place_fits (codes cs) (s.k - 1), length-map cs code, l, s.within, s.short), tt))
