@@ -6,17 +6,17 @@ use Rattle.grammar.proofs.examples.worked_examples.Goals as goal
 pub returns : goal.returns
 unfolding spelled int_wrap
 returns c = record {
-  count-wraps = refl;
-  month-left-out = refl;
-  electron-alone = (refl, refl);
-  electron-unknown = refl;
-  not-unknown = refl;
-  not-alone = refl;
-  blanks-before-comma = (refl, refl, refl);
-  unknown-with-blank = refl;
-  phantom-more = (refl, (refl, refl));
-  comma-last = (refl, refl, (refl, refl));
-  comma-twice = (refl, refl, (refl, refl));
-  point-back = (refl, (refl, refl));
-  last-a-browser = (refl, (refl, refl));
+  count_wraps = refl;
+  month_left_out = refl;
+  electron_alone = (refl, refl);
+  electron_unknown = refl;
+  not_unknown = refl;
+  not_alone = refl;
+  blanks_before_comma = (refl, refl, refl);
+  unknown_with_blank = refl;
+  phantom_more = (refl, (refl, refl));
+  comma_last = (refl, refl, (refl, refl));
+  comma_twice = (refl, refl, (refl, refl));
+  point_back = (refl, (refl, refl));
+  last_a_browser = (refl, (refl, refl));
 }
