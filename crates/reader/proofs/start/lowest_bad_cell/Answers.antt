@@ -5,8 +5,8 @@ use Rattle.reader.proofs.start.lowest_bad_cell.Goals as goal
 
 pub returns-in_err-byte_at : goal.returns-in_err-byte_at
 returns-in_err-byte_at g c =
-    let p = err_from_is_err_and c.from-residual.result c.from-residual.ensures.1 in
-    bad_stop (g.T.Text.cells c.args.text.now) c.loop-place.place c.in_err-byte_at.field-0.0 c.from-residual.result p.0 p.1 p.2 c.loop-place.invariant c.in_err-byte_at.ensures
+    let p = err_from_is_err_and c.from_residual.result c.from_residual.ensures.1 in
+    bad_stop (g.T.Text.cells c.args.text.now) c.loop-place.place c.in_err-byte_at.field-0.0 c.from_residual.result p.0 p.1 p.2 c.loop-place.invariant c.in_err-byte_at.ensures
 
 pub loop-place-preserved : goal.loop-place-preserved
 loop-place-preserved g c =

@@ -11,5 +11,5 @@ returns g c =
 
 pub returns-in_err-reader : goal.returns-in_err-reader
 returns-in_err-reader g c =
-    let p = err_from_is_err_and c.from-residual.result c.from-residual.ensures.1 in
-    uncounted (g.T.Text.cells c.args.text.now) c.from-residual.result p.0 c.in_err-reader.field-0.0 p.1 p.2 c.in_err-reader.ensures
+    let p = err_from_is_err_and c.from_residual.result c.from_residual.ensures.1 in
+    uncounted (g.T.Text.cells c.args.text.now) c.from_residual.result p.0 c.in_err-reader.field-0.0 p.1 p.2 c.in_err-reader.ensures

@@ -10,9 +10,9 @@ use Rattle.words.proofs.fill.fill_text.Goals as goal
 pub returns-in_err-reader : goal.returns-in_err-reader
 returns-in_err-reader g c =
     let cells = g.T.Text.cells c.args.text.now in
-    let p = err_from_is_err_and c.from-residual.result c.from-residual.ensures.1 in
+    let p = err_from_is_err_and c.from_residual.result c.from_residual.ensures.1 in
     let e = c.in_err-reader.field-0.0 in
-    passed_on cells c.args.queries.now c.args.separators.now c.from-residual.result p.0 e p.1 p.2 (barred_start cells e c.in_err-reader.ensures)
+    passed_on cells c.args.queries.now c.args.separators.now c.from_residual.result p.0 e p.1 p.2 (barred_start cells e c.in_err-reader.ensures)
 
 pub returns-in_err-n : goal.returns-in_err-n
 returns-in_err-n g c =
@@ -20,9 +20,9 @@ returns-in_err-n g c =
     let o = c.in_ok-reader.reader.text in
     let t = shown o.start o.end (g.T.Text.cells o.inner.now) in
     let b = c.in_ok-reader.ensures in
-    let p = err_from_is_err_and c.from-residual-in_err-n.result c.from-residual-in_err-n.ensures.1 in
+    let p = err_from_is_err_and c.from_residual-in_err-n.result c.from_residual-in_err-n.ensures.1 in
     let e = c.in_err-n.field-0.0 in
-    passed_on cells c.args.queries.now c.args.separators.now c.from-residual-in_err-n.result p.0 e p.1 p.2 (barred_short cells t c.count.result e b.0 b.1 c.count.ensures.counted c.in_err-n.was)
+    passed_on cells c.args.queries.now c.args.separators.now c.from_residual-in_err-n.result p.0 e p.1 p.2 (barred_short cells t c.count.result e b.0 b.1 c.count.ensures.counted c.in_err-n.was)
 
 pub returns-then-not-has_room : goal.returns-then-not-has_room
 returns-then-not-has_room g c =

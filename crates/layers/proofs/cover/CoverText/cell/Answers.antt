@@ -5,7 +5,7 @@ use Rattle.layers.proofs.cover.CoverText.cell.Goals as goal
 
 pub returns-in_err-found : goal.returns-in_err-found
 returns-in_err-found g c =
-    let p = err_from_is_err_and c.from-residual.result c.from-residual.ensures.1 in
+    let p = err_from_is_err_and c.from_residual.result c.from_residual.ensures.1 in
     shown_fault (marked c.args.self.now.comments.words) (g.T.Text.cells c.args.self.now.inner) c.args.place c.in_err-found.ensures p.1 p.2
 
 pub returns-in-Some : goal.returns-in-Some
