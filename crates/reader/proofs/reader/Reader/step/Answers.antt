@@ -19,7 +19,7 @@ invariant_of-self g c =
     let cs = between s.text.start s.text.end below in
     let l : s.place ≤ length (shown s.text.start s.text.end below) = omega (arith, c.len.ensures, length-map cs code, c.if-self-len.false) in
     let b = next_end (shown s.text.start s.text.end below) s.k s.place c.in-Ok.query l (sym c.in-Ok.ensures) in
-    (omega (arith, b.0, s.within), (omega (arith, b.1, length-map cs code, between_short s.text.start s.text.end below (g.T.Text.short s.text.inner.now)), tt))
+    record { within = omega (arith, b.0, s.within); short = omega (arith, b.1, length-map cs code, between_short s.text.start s.text.end below (g.T.Text.short s.text.inner.now)) }
 
 pub returns-in-Ok : goal.returns-in-Ok
 returns-in-Ok g c =

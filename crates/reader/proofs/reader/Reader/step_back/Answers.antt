@@ -11,4 +11,4 @@ invariant_of-self g c =
     let below = g.T.Text.cells s.text.inner.now in
     let cs = between s.text.start s.text.end below in
     let l = between_short s.text.start s.text.end below (g.T.Text.short s.text.inner.now) in
-    (omega (arith, c.max-place.ensures), (omega (arith, c.max-place.ensures, c.place_of.ensures, place_fits (codes cs) (s.k - 1), length-map cs code, l, s.within, s.short), tt))
+    record { within = omega (arith, c.max-place.ensures); short = omega (arith, c.max-place.ensures, c.place_of.ensures, place_fits (codes cs) (s.k - 1), length-map cs code, l, s.within, s.short) }
