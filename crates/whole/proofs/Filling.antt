@@ -7,6 +7,8 @@ use Rattle.texts.specs.Trim.{trimmed}
 use Rattle.grammar.specs.declared.query.SingleQuery.{SingleQuery}
 use Rattle.reader.specs.declared.refusal.Refusal.{Refusal}
 use Rattle.reader.specs.Start.{start_refusal}
+use Rattle.whole.specs.declared.refusal.WholeRefusal.{WholeRefusal}
+use Rattle.whole.specs.declared.refusal.WholeRefusal.TheVariants.{OfText}
 use Rattle.replay.specs.Law.{Holds}
 use Rattle.replay.specs.Queries.{QueryTurn, queries_of}
 use Rattle.replay.proofs.Starting.{refused_unreadable}
@@ -74,13 +76,13 @@ filled cells t n u w before cleared after et room z g =
     }
 
 -- every slot and both lists stay where a text is refused
-pub stayed : (cells : List Cell) (r : Reading) (e : Refusal) → Why cells (length r.queries.slots.now) (length r.separators.slots.now) e → Refused cells r r e
+pub stayed : (cells : List Cell) (r : Reading) (e : WholeRefusal) → Why cells (length r.queries.slots.now) (length r.separators.slots.now) e → Refused cells r r e
 stayed cells r e w = record { why = w; queries = refl; count = refl; separators = refl; less = refl }
 
 -- the same at the exit of a `?`
-pub passed_on : (cells : List Cell) (reading : Reading) (r : Result ℕ Refusal) (x e : Refusal) → r ≡ Err x → x ≡ e → Barred cells e → MatchResult r (Filled cells reading reading) (Refused cells reading reading)
+pub passed_on : (cells : List Cell) (reading : Reading) (r : Result ℕ WholeRefusal) (x : WholeRefusal) (e : Refusal) → r ≡ Err x → x ≡ OfText e → Barred cells e → MatchResult r (Filled cells reading reading) (Refused cells reading reading)
 passed_on cells reading r x e was is b =
-    subst (λ y. MatchResult y (Filled cells reading reading) (Refused cells reading reading)) (sym (was ∙ ap Err is)) (stayed cells reading e (barred b))
+    subst (λ y. MatchResult y (Filled cells reading reading) (Refused cells reading reading)) (sym (was ∙ ap Err is)) (stayed cells reading (OfText e) (barred b))
 
 -- what counting answers
 pub counted : (cells : List Cell) (t : List ℕ) (r : Result ℕ Refusal) → start_refusal cells ≡ Ok tt → t ≡ codes (trimmed cells) → Counted t r → MatchResult r (Counts cells) (Barred cells)

@@ -6,10 +6,12 @@ use Rattle.texts.specs.Codes.{codes}
 use Rattle.texts.specs.Trim.{trimmed}
 use Rattle.grammar.specs.declared.query.SingleQuery.{SingleQuery}
 use Rattle.reader.specs.declared.refusal.Refusal.{Refusal}
-use Rattle.reader.specs.declared.refusal.Refusal.TheVariants.{NoReading, TooFewSlots}
+use Rattle.reader.specs.declared.refusal.Refusal.TheVariants.{NoReading}
 use Rattle.reader.specs.Start.{start_refusal}
 use Rattle.replay.specs.Law.{Holds}
 use Rattle.replay.specs.Queries.{QueryTurn, queries_of}
+use Rattle.whole.specs.declared.refusal.WholeRefusal.{WholeRefusal}
+use Rattle.whole.specs.declared.refusal.WholeRefusal.TheVariants.{OfText, TooFewSlots}
 use Rattle.whole.specs.declared.reading.Separator.{Separator}
 use Rattle.whole.specs.declared.reading.Reading.{Reading}
 use Rattle.whole.specs.Walks.{Walked}
@@ -57,14 +59,14 @@ pub record Filled (cells : List Cell) (before after : Reading) (n : ℕ) : Type 
   pub less : after.separators.len ≡ n - 1
 
 -- why a text is refused, where there are so many query slots and separator slots
-pub data Why (cells : List Cell) (slots between : ℕ) : Refusal → Type 0 where
+pub data Why (cells : List Cell) (slots between : ℕ) : WholeRefusal → Type 0 where
   -- it has no reading
-  barred : {e : Refusal} → Barred cells e → Why cells slots between e
+  barred : {e : Refusal} → Barred cells e → Why cells slots between (OfText e)
   -- it has one, whose queries or their separators are more than the slots
   crowded : {n : ℕ} → Counts cells n → enough slots between n ≡ false → Why cells slots between (TooFewSlots n)
 
 -- a refused text: every slot and both lists are as they were
-pub record Refused (cells : List Cell) (before after : Reading) (e : Refusal) : Type 0 where
+pub record Refused (cells : List Cell) (before after : Reading) (e : WholeRefusal) : Type 0 where
   pub why : Why cells (length before.queries.slots.now) (length before.separators.slots.now) e
   pub queries : after.queries.slots.now ≡ before.queries.slots.now
   pub count : after.queries.len ≡ before.queries.len

@@ -5,5 +5,6 @@ pub mod list;
 pub mod nth;
 pub mod part;
 pub mod reading;
+pub mod refusal;
 pub mod walk;
 pub mod whole;

@@ -1,19 +1,19 @@
 // A part of the caller's bytes.
 ghost use Rattle.std.specs.Prelude.{◌≡◌, Some, None, MatchResult};
-ghost use Rattle.reader.specs.declared.refusal.Refusal.TheVariants.{OutsideBytes};
+ghost use Rattle.whole.specs.declared.refusal.WholeRefusal.TheVariants.{OutsideBytes};
 ghost use Rattle.whole.specs.Parts.{part_of};
 
-use reader::refusal::Refusal;
+use crate::refusal::WholeRefusal;
 
 // A part that starts behind its end, or ends behind the bytes: refusal 6.
 #[derive(Clone, Copy, Debug)]
 pub struct Outside;
 
-impl From<Outside> for Refusal {
+impl From<Outside> for WholeRefusal {
     ghost from_gives = { λ _ r. r ≡ OutsideBytes };
 
-    fn from(_: Outside) -> Refusal {
-        Refusal::OutsideBytes
+    fn from(_: Outside) -> WholeRefusal {
+        WholeRefusal::OutsideBytes
     }
 }
 

@@ -5,6 +5,7 @@ ghost use Rattle.whole.specs.Walks.{Counted};
 ghost use Rattle.whole.specs.Whole.{Counts, Barred, enough, Filled, Refused};
 
 use crate::reading::Reading;
+use crate::refusal::WholeRefusal;
 use crate::walk::{Sink, walk_through};
 use grammar::query::SingleQuery;
 use reader::reader::Reader;
@@ -49,7 +50,7 @@ pub fn has_room(n: usize, slots: usize, between: usize) -> bool
 
 // Fills the first n query slots and n - 1 separator slots with the reading of a text, and no others; answers n.
 // A refusal leaves every slot and both lists as they were.
-pub fn read_whole<T: Text>(text: &T, reading: &mut Reading) -> Result<usize, Refusal>
+pub fn read_whole<T: Text>(text: &T, reading: &mut Reading) -> Result<usize, WholeRefusal>
     ensures queries { reading.new.queries.slots.ghost_name ≡ reading.old.queries.slots.ghost_name }
     ensures separators { reading.new.separators.slots.ghost_name ≡ reading.old.separators.slots.ghost_name }
     ensures whole { MatchResult result (Filled (T.Text.cells text.now) reading.old reading.new) (Refused (T.Text.cells text.now) reading.old reading.new) }
@@ -57,7 +58,7 @@ pub fn read_whole<T: Text>(text: &T, reading: &mut Reading) -> Result<usize, Ref
     let mut reader = Reader::start(text)?;
     let n = count(&mut reader)?;
     if !has_room(n, reading.queries.room(), reading.separators.room()) {
-        return Err(Refusal::TooFewSlots { queries: n });
+        return Err(WholeRefusal::TooFewSlots { queries: n });
     }
     reading.queries.clear();
     reading.separators.clear();
