@@ -105,8 +105,7 @@ pub fn read_text<T: Text>(text: &T, records: &mut [u64], outcome: &mut [u64]) ->
 
 // The queries of a statement in the caller's bytes: a record of 24 words for each that there is room for, and
 // four words that tell how it ended. Answers how many queries were given.
-#[unsafe(no_mangle)]
-pub extern "C" fn statement_read(bytes: &[u8], records: &mut [u64], outcome: &mut [u64]) -> u64
+pub fn statement_read(bytes: &[u8], records: &mut [u64], outcome: &mut [u64]) -> u64
     ensures { ReadText (stored bytes.now) result records.old records.new outcome.old outcome.new }
 {
     let store = ByteStore::new(bytes);
