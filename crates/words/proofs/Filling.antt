@@ -8,6 +8,8 @@ use Rattle.texts.specs.declared.cell.Cell.{Cell}
 use Rattle.texts.specs.Codes.{codes}
 use Rattle.texts.specs.Trim.{trimmed}
 use Rattle.reader.specs.declared.refusal.Refusal.{Refusal}
+use Rattle.whole.specs.declared.refusal.WholeRefusal.{WholeRefusal}
+use Rattle.whole.specs.declared.refusal.WholeRefusal.TheVariants.{OfText}
 use Rattle.whole.specs.Slots.{gaps}
 use Rattle.whole.specs.Whole.{Counts, Barred, enough, Why, barred}
 use Rattle.whole.proofs.Filling.{walk_counts, enough_room}
@@ -63,9 +65,9 @@ filled cells t n u w q q' s s' et room g =
       parted = g.parted ∙ (put_first places_of 2 (omega arith) (λ y. refl) (gaps g.given) s (n - 1) d l.1 ∙ ap (λ l. flat_map places_of l ++ drop ((n - 1) * 2) s) (ap gaps x.0 ∙ gaps_are u.turns));
     }
 
-pub stayed : (cells : List Cell) (q s : List ℕ) (e : Refusal) → Why cells (length q / 24) (length s / 2) e → RefusedWords cells q q s s e
+pub stayed : (cells : List Cell) (q s : List ℕ) (e : WholeRefusal) → Why cells (length q / 24) (length s / 2) e → RefusedWords cells q q s s e
 stayed cells q s e w = record { why = w; queries_stay = refl; separators_stay = refl }
 
 -- at the exit of a `?`
-pub passed_on : (cells : List Cell) (q s : List ℕ) (r : Result ℕ Refusal) (x e : Refusal) → r ≡ Err x → x ≡ e → Barred cells e → MatchResult r (FilledWords cells q q s s) (RefusedWords cells q q s s)
-passed_on cells q s r x e was is b = subst (λ y. MatchResult y (FilledWords cells q q s s) (RefusedWords cells q q s s)) (sym (was ∙ ap Err is)) (stayed cells q s e (barred b))
+pub passed_on : (cells : List Cell) (q s : List ℕ) (r : Result ℕ WholeRefusal) (x : WholeRefusal) (e : Refusal) → r ≡ Err x → x ≡ OfText e → Barred cells e → MatchResult r (FilledWords cells q q s s) (RefusedWords cells q q s s)
+passed_on cells q s r x e was is b = subst (λ y. MatchResult y (FilledWords cells q q s s) (RefusedWords cells q q s s)) (sym (was ∙ ap Err is)) (stayed cells q s (OfText e) (barred b))

@@ -3,8 +3,8 @@ use Rattle.std.specs.Prelude.{◌≡◌, ℕ, List, ◌++◌, length, take, drop
 use Rattle.texts.specs.declared.cell.Fault.{Fault}
 use Rattle.texts.specs.declared.cell.Cell.{Cell}
 use Rattle.texts.specs.declared.cell.Cell.TheVariants.{Byte, Bad}
-use Rattle.reader.specs.declared.refusal.Refusal.{Refusal}
-use Rattle.reader.specs.declared.refusal.Refusal.TheVariants.{OutsideBytes}
+use Rattle.whole.specs.declared.refusal.WholeRefusal.{WholeRefusal}
+use Rattle.whole.specs.declared.refusal.WholeRefusal.TheVariants.{OutsideBytes}
 use Rattle.whole.specs.Parts.{part_of}
 
 -- bytes over the first of others, as many as there is room for
@@ -19,7 +19,7 @@ pub record Copied (bytes : List ℕ) (start end : ℕ) (out out' : List ℕ) (n 
   pub laid : out' ≡ overlaid out part
 
 -- the part is not within the bytes
-pub record Uncopied (bytes : List ℕ) (start end : ℕ) (out out' : List ℕ) (e : Refusal) : Type 0 where
+pub record Uncopied (bytes : List ℕ) (start end : ℕ) (out out' : List ℕ) (e : WholeRefusal) : Type 0 where
   pub outside : part_of bytes start end ≡ None
   pub why : e ≡ OutsideBytes
   pub stays : out' ≡ out

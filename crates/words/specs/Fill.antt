@@ -2,7 +2,7 @@
 use Rattle.std.specs.Prelude.{◌≡◌, ℕ, ◌-◌, ◌*◌, ◌/◌, true, List, ◌++◌, length, drop}
 use Rattle.std.specs.List.{flat_map}
 use Rattle.texts.specs.declared.cell.Cell.{Cell}
-use Rattle.reader.specs.declared.refusal.Refusal.{Refusal}
+use Rattle.whole.specs.declared.refusal.WholeRefusal.{WholeRefusal}
 use Rattle.replay.specs.Queries.{queries_of}
 use Rattle.whole.specs.Whole.{separators_of, Counts, enough, Why}
 use Rattle.exports.specs.Layout.{words_of}
@@ -16,7 +16,7 @@ pub record FilledWords (cells : List Cell) (queries queries' separators separato
   pub parted : separators' ≡ flat_map places_of (separators_of counts.turns) ++ drop ((n - 1) * 2) separators
 
 -- a refused text: every word is as it was
-pub record RefusedWords (cells : List Cell) (queries queries' separators separators' : List ℕ) (e : Refusal) : Type 0 where
+pub record RefusedWords (cells : List Cell) (queries queries' separators separators' : List ℕ) (e : WholeRefusal) : Type 0 where
   pub why : Why cells (length queries / 24) (length separators / 2) e
   pub queries_stay : queries' ≡ queries
   pub separators_stay : separators' ≡ separators

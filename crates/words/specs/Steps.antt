@@ -12,7 +12,7 @@ use Rattle.exports.specs.Layout.{words_of}
 use Rattle.records.specs.Layout.{places_of}
 use Rattle.whole.specs.declared.walk.Walk.{Walk}
 use Rattle.words.specs.declared.steps.Slices.{Slices}
-use Rattle.words.specs.Outcome.{outcome_of}
+use Rattle.words.specs.Outcome.{outcome_of, of_text}
 use Rattle.words.specs.Put.{put_slot, put_slots, put_before}
 
 -- the record of query n and, if it is not the first, of the separator before it are written; the slices are the same
@@ -41,14 +41,14 @@ pub record Stepped (t : List ℕ) (count : ℕ) (queries queries' separators sep
   pub many : count ≡ length given
   pub laid : queries' ≡ put_slots queries 0 (map words_of given)
   pub parted : separators' ≡ put_slots separators 0 (map places_of (gaps given))
-  pub told : outcome' ≡ put_slot outcome 0 (outcome_of (stopped stop (length given)))
+  pub told : outcome' ≡ put_slot outcome 0 (outcome_of (of_text (stopped stop (length given))))
 
 -- what is written where start refuses
 pub record Turned (e : Refusal) (count : ℕ) (queries queries' separators separators' outcome outcome' : List ℕ) : Type 0 where
   pub none : count ≡ 0
   pub queries_stay : queries' ≡ queries
   pub separators_stay : separators' ≡ separators
-  pub told : outcome' ≡ put_slot outcome 0 (outcome_of (Err e))
+  pub told : outcome' ≡ put_slot outcome 0 (outcome_of (of_text (Err e)))
 
 -- what is written for a text, started on or not
 abbrev pub ReadText : List Cell → ℕ → List ℕ → List ℕ → List ℕ → List ℕ → List ℕ → List ℕ → Type 0

@@ -3,9 +3,9 @@ ghost use Rattle.std.specs.Prelude.{◌≡◌, ℕ, map, length, MatchResult};
 ghost use Rattle.texts.specs.Cells.{answer};
 ghost use Rattle.words.specs.Copy.{overlaid, byte_shown, found_shown, answer_shown, Copied, Uncopied};
 
-use reader::refusal::Refusal;
 use texts::text::Text;
 use whole::part::part;
+use whole::refusal::WholeRefusal;
 
 // As many of the bytes as there is room for.
 fn copy_front(out: &mut [u8], bytes: &[u8])
@@ -16,7 +16,12 @@ fn copy_front(out: &mut [u8], bytes: &[u8])
 }
 
 // The caller's bytes from a place up to another, as many as there is room for. Answers how many they are.
-pub fn copy_part(bytes: &[u8], start: usize, end: usize, out: &mut [u8]) -> Result<usize, Refusal>
+pub fn copy_part(
+    bytes: &[u8],
+    start: usize,
+    end: usize,
+    out: &mut [u8],
+) -> Result<usize, WholeRefusal>
     ensures { MatchResult result (Copied bytes.now start end out.old out.new) (Uncopied bytes.now start end out.old out.new) }
 {
     let found = part(bytes, start, end)?;

@@ -4,8 +4,8 @@ ghost use Rattle.words.specs.Fill.{FilledWords, RefusedWords};
 
 use crate::steps::write_steps;
 use reader::reader::Reader;
-use reader::refusal::Refusal;
 use texts::text::Text;
+use whole::refusal::WholeRefusal;
 use whole::whole::{count, has_room};
 
 // Writes the n queries and n - 1 separators of the reading, and no other word; answers n.
@@ -14,13 +14,13 @@ pub fn fill_text<T: Text>(
     text: &T,
     queries: &mut [u64],
     separators: &mut [u64],
-) -> Result<usize, Refusal>
+) -> Result<usize, WholeRefusal>
     ensures { MatchResult result (FilledWords (T.Text.cells text.now) queries.old queries.new separators.old separators.new) (RefusedWords (T.Text.cells text.now) queries.old queries.new separators.old separators.new) }
 {
     let mut reader = Reader::start(text)?;
     let n = count(&mut reader)?;
     if !has_room(n, queries.len() / 24, separators.len() / 2) {
-        return Err(Refusal::TooFewSlots { queries: n });
+        return Err(WholeRefusal::TooFewSlots { queries: n });
     }
     write_steps(&mut reader, queries, separators);
     Ok(n)

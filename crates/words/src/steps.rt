@@ -5,7 +5,7 @@ ghost use Rattle.exports.specs.Layout.{words_of};
 ghost use Rattle.words.specs.Put.{put_slot, put_before};
 ghost use Rattle.words.specs.Steps.{Writes, Written, ReadText};
 
-use crate::put::{put_slot, report};
+use crate::put::{put_slot, report_text};
 use exports::layout::words_of;
 use grammar::query::SingleQuery;
 use reader::reader::Reader;
@@ -89,11 +89,11 @@ pub fn read_text<T: Text>(
     match Reader::start(text) {
         Ok(mut reader) => {
             let walk = write_steps(&mut reader, queries, separators);
-            report(walk.answer(), outcome);
+            report_text(walk.answer(), outcome);
             walk.given
         }
         Err(refusal) => {
-            report(Err(refusal), outcome);
+            report_text(Err(refusal), outcome);
             0
         }
     }

@@ -1,7 +1,7 @@
 use Rattle.std.proofs.Common.{sym, ap, ◌∙◌}
 use Rattle.std.proofs.lemmas.Result.{err_from_is_err_and}
 use Rattle.reader.specs.Steps.{shown}
-use Rattle.reader.specs.declared.refusal.Refusal.TheVariants.{TooFewSlots}
+use Rattle.whole.specs.declared.refusal.WholeRefusal.TheVariants.{TooFewSlots}
 use Rattle.whole.specs.Whole.{crowded}
 use Rattle.whole.proofs.Filling.{barred_start, barred_short, counted_reading}
 use Rattle.words.proofs.Filling.{filled, stayed, passed_on}
