@@ -2,20 +2,20 @@
 ghost use Rattle.std.specs.Prelude.{◌≡◌, MatchResult};
 ghost use Rattle.texts.specs.Codes.{codes};
 ghost use Rattle.texts.specs.Spaces.{in_front};
-ghost use Rattle.whole.specs.Whole.{Counts, Barred};
+ghost use Rattle.whole.specs.Whole.{Counts};
 ghost use Rattle.words.specs.Fill.{FilledWords, RefusedWords};
-ghost use Rattle.interface.specs.Reports.{Reported};
+ghost use Rattle.interface.specs.Reports.{Reported, BarredText};
 
 use texts::text::Text;
 use texts::trim::Trim;
 use whole::whole::count_queries;
 use words::fill::fill_text;
-use words::put::report;
+use words::put::{report, report_text};
 
 pub(crate) fn count<T: Text>(text: &T, outcome: &mut [u64]) -> u64
-    ensures { Reported (λ a. MatchResult a (Counts (T.Text.cells text.now)) (Barred (T.Text.cells text.now))) result outcome.old outcome.new }
+    ensures { Reported (λ a. MatchResult a (Counts (T.Text.cells text.now)) (BarredText (T.Text.cells text.now))) result outcome.old outcome.new }
 {
-    report(count_queries(text), outcome)
+    report_text(count_queries(text), outcome)
 }
 
 pub(crate) fn fill<T: Text>(

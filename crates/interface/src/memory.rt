@@ -4,11 +4,11 @@ ghost use Rattle.texts.specs.Codes.{codes};
 ghost use Rattle.texts.specs.Spaces.{in_front};
 ghost use Rattle.layers.specs.Covers.{covered};
 ghost use Rattle.chain.specs.Chains.{chained};
-ghost use Rattle.whole.specs.Whole.{Counts, Barred};
+ghost use Rattle.whole.specs.Whole.{Counts};
 ghost use Rattle.words.specs.Copy.{overlaid, byte_shown};
 ghost use Rattle.words.specs.Field.{FieldOf};
 ghost use Rattle.words.specs.Fill.{FilledWords, RefusedWords};
-ghost use Rattle.interface.specs.Reports.{Reported};
+ghost use Rattle.interface.specs.Reports.{Reported, BarredText};
 
 use crate::any::{count, fill, offset};
 use chain::store::ChainStore;
@@ -16,16 +16,14 @@ use layers::cover::Cover;
 use words::copy::copy_text;
 use words::field::field_of_text;
 
-#[unsafe(no_mangle)]
-pub extern "C" fn statement_chain_count(memory: &[u8], first: u16, outcome: &mut [u64]) -> u64
-    ensures { Reported (λ a. MatchResult a (Counts (covered (chained memory.now first))) (Barred (covered (chained memory.now first)))) result outcome.old outcome.new }
+pub fn statement_chain_count(memory: &[u8], first: u16, outcome: &mut [u64]) -> u64
+    ensures { Reported (λ a. MatchResult a (Counts (covered (chained memory.now first))) (BarredText (covered (chained memory.now first)))) result outcome.old outcome.new }
 {
     let pile = Cover::new(ChainStore::new(memory, first));
     count(&pile, outcome)
 }
 
-#[unsafe(no_mangle)]
-pub extern "C" fn statement_chain_fill(
+pub fn statement_chain_fill(
     memory: &[u8],
     first: u16,
     queries: &mut [u64],
@@ -38,16 +36,14 @@ pub extern "C" fn statement_chain_fill(
     fill(&pile, queries, separators, outcome)
 }
 
-#[unsafe(no_mangle)]
-pub extern "C" fn statement_chain_field(memory: &[u8], first: u16, k: usize, field: usize) -> u64
+pub fn statement_chain_field(memory: &[u8], first: u16, k: usize, field: usize) -> u64
     ensures { FieldOf (covered (chained memory.now first)) k field result }
 {
     let pile = Cover::new(ChainStore::new(memory, first));
     field_of_text(&pile, k, field)
 }
 
-#[unsafe(no_mangle)]
-pub extern "C" fn statement_chain_offset(memory: &[u8], first: u16) -> u64
+pub fn statement_chain_offset(memory: &[u8], first: u16) -> u64
     ensures { result ≡ in_front (codes (covered (chained memory.now first))) }
 {
     let pile = Cover::new(ChainStore::new(memory, first));
@@ -55,8 +51,7 @@ pub extern "C" fn statement_chain_offset(memory: &[u8], first: u16) -> u64
 }
 
 // The covered text itself, as many bytes as there is room for, with 26 for a bad cell. Answers how many cells it has.
-#[unsafe(no_mangle)]
-pub extern "C" fn statement_chain_text(memory: &[u8], first: u16, out: &mut [u8]) -> u64
+pub fn statement_chain_text(memory: &[u8], first: u16, out: &mut [u8]) -> u64
     ensures long { result ≡ length (covered (chained memory.now first)) }
     ensures copied { out.new ≡ overlaid out.old (map byte_shown (covered (chained memory.now first))) }
 {

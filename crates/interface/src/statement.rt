@@ -3,12 +3,12 @@ ghost use Rattle.std.specs.Prelude.{◌≡◌, MatchResult};
 ghost use Rattle.texts.specs.Cells.{stored};
 ghost use Rattle.texts.specs.Codes.{codes};
 ghost use Rattle.texts.specs.Spaces.{in_front};
-ghost use Rattle.whole.specs.Whole.{Counts, Barred};
+ghost use Rattle.whole.specs.Whole.{Counts};
 ghost use Rattle.words.specs.Copy.{Copied, Uncopied};
 ghost use Rattle.words.specs.Field.{FieldOf};
 ghost use Rattle.words.specs.Fill.{FilledWords, RefusedWords};
 ghost use Rattle.words.specs.Steps.{ReadText};
-ghost use Rattle.interface.specs.Reports.{Reported};
+ghost use Rattle.interface.specs.Reports.{Reported, BarredText};
 
 use crate::any::{count, fill, offset};
 use texts::store::ByteStore;
@@ -18,16 +18,14 @@ use words::put::report;
 use words::steps::read_text;
 
 // How many queries the reading has; 0 at a refusal, which the outcome's words tell.
-#[unsafe(no_mangle)]
-pub extern "C" fn statement_count(bytes: &[u8], outcome: &mut [u64]) -> u64
-    ensures { Reported (λ a. MatchResult a (Counts (stored bytes.now)) (Barred (stored bytes.now))) result outcome.old outcome.new }
+pub fn statement_count(bytes: &[u8], outcome: &mut [u64]) -> u64
+    ensures { Reported (λ a. MatchResult a (Counts (stored bytes.now)) (BarredText (stored bytes.now))) result outcome.old outcome.new }
 {
     count(&ByteStore::new(bytes), outcome)
 }
 
 // The whole reading, or a refusal that leaves every word of both slices as it was. Answers how many queries it has.
-#[unsafe(no_mangle)]
-pub extern "C" fn statement_fill(
+pub fn statement_fill(
     bytes: &[u8],
     queries: &mut [u64],
     separators: &mut [u64],
@@ -39,8 +37,7 @@ pub extern "C" fn statement_fill(
 }
 
 // Every query that stepping gives, also before a refusal, as far as there is room. Answers how many were given.
-#[unsafe(no_mangle)]
-pub extern "C" fn statement_steps(
+pub fn statement_steps(
     bytes: &[u8],
     queries: &mut [u64],
     separators: &mut [u64],
@@ -52,16 +49,14 @@ pub extern "C" fn statement_steps(
 }
 
 // One word of query k; 2^64 - 1 where there is no such query or word.
-#[unsafe(no_mangle)]
-pub extern "C" fn statement_field(bytes: &[u8], k: usize, field: usize) -> u64
+pub fn statement_field(bytes: &[u8], k: usize, field: usize) -> u64
     ensures { FieldOf (stored bytes.now) k field result }
 {
     field_of_text(&ByteStore::new(bytes), k, field)
 }
 
 // The bytes from a place up to another, as many as there is room for. Answers how many they are; 0 at a refusal.
-#[unsafe(no_mangle)]
-pub extern "C" fn statement_part(
+pub fn statement_part(
     bytes: &[u8],
     start: usize,
     end: usize,
@@ -74,8 +69,7 @@ pub extern "C" fn statement_part(
 }
 
 // How many bytes the trim drops in front.
-#[unsafe(no_mangle)]
-pub extern "C" fn statement_offset(bytes: &[u8]) -> u64
+pub fn statement_offset(bytes: &[u8]) -> u64
     ensures { result ≡ in_front (codes (stored bytes.now)) }
 {
     offset(&ByteStore::new(bytes))
