@@ -4,12 +4,12 @@ use interface::memory::{statement_chain_count, statement_chain_text};
 use interface::statement::{
     statement_count, statement_field, statement_fill, statement_offset, statement_part,
 };
-use reader::refusal::Refusal;
 use std::test::Fail;
 use texts::store::ByteStore;
 use texts::text::Text;
 use whole::part::part;
 use whole::reading::{Reading, Separator};
+use whole::refusal::WholeRefusal;
 use whole::whole::read_whole;
 
 // What stands in a word until it is written.
@@ -140,7 +140,7 @@ fn lists_in_slots(rt: HostRuntime) -> Result<(), Fail> {
         (2, 2, 1)
     );
     let refused = read_whole(&ByteStore::new(b"a,b,c,d"), &mut reading);
-    assert_eq!(rt; refused, Err(Refusal::TooFewSlots { queries: 4 }));
+    assert_eq!(rt; refused, Err(WholeRefusal::TooFewSlots { queries: 4 }));
     assert_eq!(rt; (reading.queries.len(), reading.separators.len()), (2, 1));
     assert_eq!(rt; (slots[1].raw.start, slots[1].is_and), (6, true));
     assert_eq!(rt; slots[2].raw.start, 9);
