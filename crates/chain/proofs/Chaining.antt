@@ -1,10 +1,8 @@
 -- The walk along a chain: one more piece, and the end.
-use Rattle.std.proofs.Common.{◌≡◌, ℕ, zero, suc, ◌+◌, ◌-◌, ◌*◌, ◌/◌, ◌<◌, ◌≤◌, min, true, false, ◌≢◌, List, [], ◌∷◌, ◌++◌, length, get_or, take, drop, set, Some, None, Option, sym, refl, ap, ◌∙◌, subst, ⊎_elim, add-one, arith, length-append, length-drop, length-take}
-use lib.ListN.{length-map}
+use Rattle.std.proofs.Common.{◌≡◌, ℕ, zero, suc, ◌+◌, ◌-◌, ◌*◌, ◌<◌, ◌≤◌, ◌≢◌, List, [], ◌∷◌, ◌++◌, length, get_or, take, drop, set, Some, None, sym, refl, ap, ◌∙◌, ⊎_elim, add-one, arith, length-append, length-drop, length-take}
 use Rattle.std.proofs.lemmas.List.{get_or-set_same, get_or-set_other, drop-take, take-take, drop-drop, append_assoc, map-append}
 use Rattle.std.proofs.lemmas.Bool.{cases_eq}
 use Rattle.texts.specs.declared.cell.Fault.{Fault}
-use Rattle.texts.specs.declared.cell.Cell.{Cell}
 use Rattle.texts.specs.declared.cell.Cell.TheVariants.{Byte, Bad}
 use Rattle.texts.specs.Cells.{bytes}
 use Rattle.chain.specs.declared.damage.Damage.{Damage}
@@ -13,7 +11,7 @@ use Rattle.chain.specs.Damages.{fault_of}
 use Rattle.chain.specs.Records.{next_of, used_of, text_of}
 use Rattle.chain.specs.Chains.{records_of, record_at, damage_at, broken, unless, chain_from, chained}
 use Rattle.chain.specs.Short.{taken_is}
-use Rattle.chain.specs.Walks.{gathered, ending, Walked}
+use Rattle.chain.specs.Walks.{gathered, Walked}
 
 -- a record as the code cuts it out
 pub record_cut : (memory : List ℕ) (number : ℕ) → take (number * 64 + 64 - number * 64) (drop (number * 64) memory) ≡ record_at memory number

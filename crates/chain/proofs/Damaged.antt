@@ -1,10 +1,10 @@
 -- A bad cell ends a chain.
-use Rattle.std.proofs.Common.{◌≡◌, ℕ, zero, suc, ◌+◌, ◌-◌, ◌<◌, ◌≤◌, List, [], ◌∷◌, ◌++◌, length, get_or, Some, None, Ok, Err, Option, Result, sym, refl, ap, ◌∙◌, ⊎_elim, arith, length-append}
+use Rattle.std.proofs.Common.{◌≡◌, ℕ, zero, suc, ◌+◌, ◌-◌, List, ◌++◌, length, get_or, Some, None, Ok, Err, Option, Result, sym, refl, ap, ◌∙◌, ⊎_elim, arith, length-append}
 use lib.ListN.{length-map}
 use Rattle.std.proofs.lemmas.Bool.{cases_lt}
 use Rattle.texts.specs.declared.cell.Fault.{Fault}
 use Rattle.texts.specs.declared.cell.Cell.{Cell}
-use Rattle.texts.specs.declared.cell.Cell.TheVariants.{Byte, Bad}
+use Rattle.texts.specs.declared.cell.Cell.TheVariants.{Byte}
 use Rattle.texts.specs.Cells.{answer, told, bytes}
 use Rattle.chain.specs.declared.damage.Damage.{Damage}
 use Rattle.chain.specs.declared.damage.Damage.TheVariants.{TooMany}

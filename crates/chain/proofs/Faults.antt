@@ -1,5 +1,5 @@
 -- A fault is told by its number and its place.
-use Rattle.std.proofs.Common.{◌≡◌, ℕ, ◌≤◌, sym, refl, subst}
+use Rattle.std.proofs.Common.{◌≡◌, ℕ, ◌≤◌, sym, subst}
 use native.Mathlib.Bridge.{le_prop}
 use Rattle.texts.specs.declared.cell.Fault.{Fault}
 use Rattle.chain.specs.declared.damage.Damage.{Damage}

@@ -1,5 +1,5 @@
 -- The text of a chain, byte by byte.
-use Rattle.std.proofs.Common.{◌≡◌, ℕ, zero, suc, ◌+◌, ◌-◌, ◌<◌, ◌≤◌, min, List, [], ◌∷◌, ◌++◌, length, get_or, take, drop, Some, None, Ok, Err, Option, sym, refl, ap, ◌∙◌, subst, ⊎_elim, add-one, arith, length-append, length-drop, length-take}
+use Rattle.std.proofs.Common.{◌≡◌, ℕ, zero, suc, ◌+◌, ◌-◌, ◌<◌, ◌≤◌, List, [], ◌∷◌, ◌++◌, length, get_or, take, drop, Some, None, Ok, Err, Option, sym, refl, ap, ◌∙◌, ⊎_elim, add-one, arith, length-append, length-drop, length-take}
 use mathlib.Core.Logic.{∥∥₁_elim}
 use base.Stored.{Coded-set, coded_list}
 use lib.ListN.{length-map}
@@ -8,7 +8,7 @@ use Rattle.std.proofs.lemmas.List.{get_or_append_left, get_or-append_right, get_
 use Rattle.std.proofs.lemmas.Bool.{cases_eq}
 use Rattle.texts.specs.declared.cell.Fault.{Fault}
 use Rattle.texts.specs.declared.cell.Cell.{Cell}
-use Rattle.texts.specs.declared.cell.Cell.TheVariants.{Byte, Bad}
+use Rattle.texts.specs.declared.cell.Cell.TheVariants.{Byte}
 use Rattle.texts.specs.contracts.cell.Cell.{the_row}
 use Rattle.texts.specs.Cells.{answer, told, bytes}
 use Rattle.chain.specs.Walks.{gathered, ending}

@@ -2,7 +2,7 @@
 use Rattle.std.specs.Prelude.{◌≡◌, ℕ, zero, suc, ◌+◌, ◌*◌, ◌/◌, ◌≤◌, min, cond, List, [], ◌∷◌, ◌++◌, length, take, drop, Some, None, Err, Option, ◌==◌, nat_lt}
 use Rattle.texts.specs.declared.cell.Fault.{Fault}
 use Rattle.texts.specs.declared.cell.Cell.{Cell}
-use Rattle.texts.specs.declared.cell.Cell.TheVariants.{Byte, Bad}
+use Rattle.texts.specs.declared.cell.Cell.TheVariants.{Bad}
 use Rattle.texts.specs.Cells.{answer, bytes}
 use Rattle.chain.specs.declared.damage.Damage.{Damage}
 use Rattle.chain.specs.declared.damage.Damage.TheVariants.{NoRecord, TooMany}

@@ -1,5 +1,5 @@
 -- One record of a chain, as a list of bytes.
-use Rattle.std.specs.Prelude.{ℕ, ◌+◌, ◌*◌, ◌%◌, cond, List, length, take, drop, Some, None, sum, Option, ◌==◌, nat_lt, slice_index}
+use Rattle.std.specs.Prelude.{ℕ, ◌+◌, ◌*◌, ◌%◌, cond, List, take, drop, Some, None, sum, Option, ◌==◌, nat_lt, slice_index}
 use Rattle.chain.specs.declared.damage.Damage.{Damage}
 use Rattle.chain.specs.declared.damage.Damage.TheVariants.{TooLong, WrongCheck}
 

@@ -1,8 +1,8 @@
 -- What is kept of a chain after it was walked along once.
-use Rattle.std.specs.Prelude.{◌≡◌, ℕ, zero, suc, ◌+◌, ◌-◌, ◌*◌, ◌≤◌, List, [], ◌∷◌, ◌++◌, length, take, drop, Some, None, Option, slice_index, slice_index_or}
+use Rattle.std.specs.Prelude.{◌≡◌, ℕ, zero, suc, ◌-◌, ◌*◌, ◌≤◌, List, [], ◌∷◌, ◌++◌, length, take, drop, Some, None, Option, slice_index, slice_index_or}
 use Rattle.texts.specs.declared.cell.Fault.{Fault}
 use Rattle.texts.specs.declared.cell.Cell.{Cell}
-use Rattle.texts.specs.declared.cell.Cell.TheVariants.{Byte, Bad}
+use Rattle.texts.specs.declared.cell.Cell.TheVariants.{Bad}
 use Rattle.texts.specs.Cells.{bytes}
 use Rattle.chain.specs.Chains.{records_of, chained}
 

@@ -1,8 +1,8 @@
 -- An optional name that is none of some words.
-use Rattle.std.proofs.Common.{◌≡◌, ℕ, Bool, true, false, List, is_some, Some, None, Option, sym, refl, ap, ◌∙◌, arith}
-use Rattle.grammar.specs.Form.{Kind, part, Form, Outcome, reads, bind, spot, skip, give, onward, first_of, spotted, decided}
+use Rattle.std.proofs.Common.{◌≡◌, ℕ, false, List, is_some, Some, None, Option, refl, ap, ◌∙◌, arith}
+use Rattle.grammar.specs.Form.{part, Outcome, reads, bind, spot, skip, give, onward, first_of, spotted, decided}
 use Rattle.grammar.specs.Forms.{named}
-use Rattle.grammar.specs.Gives.{GivesValue, told}
+use Rattle.grammar.specs.Gives.{GivesValue}
 use Rattle.grammar.specs.Rule.{Rule, ends, without}
 use Rattle.grammar.specs.Tokens.{name, blanks}
 use Rattle.grammar.specs.declared.query.Span.{Span}

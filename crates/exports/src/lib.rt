@@ -1,4 +1,4 @@
-// Entry points for C and Rust, on numbers and slices.
+// Entry points on numbers and slices, as the crate exports_c hands them to C.
 #![tactic(auto)]
 
 pub mod layout;

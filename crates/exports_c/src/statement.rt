@@ -7,15 +7,15 @@ ghost use Rattle.whole.specs.Whole.{Counts};
 ghost use Rattle.words.specs.Copy.{Copied, Uncopied};
 ghost use Rattle.words.specs.Field.{FieldOf};
 ghost use Rattle.words.specs.Fill.{FilledWords, RefusedWords};
-ghost use Rattle.words.specs.Steps.{ReadText};
-ghost use Rattle.exports.specs.Outcome.{ReadText as Read};
+ghost use Rattle.words.specs.Steps.{ReadText as StepsText};
+ghost use Rattle.exports.specs.Outcome.{ReadText};
 ghost use Rattle.interface.specs.Reports.{Reported, BarredText};
 
 // The queries of a statement in the caller's bytes: a record of 24 words for each that there is room for, and
 // four words that tell how it ended. Answers how many queries were given.
 #[unsafe(no_mangle)]
 pub extern "C" fn statement_read(bytes: &[u8], records: &mut [u64], outcome: &mut [u64]) -> u64
-    ensures { Read (stored bytes.now) result records.old records.new outcome.old outcome.new }
+    ensures { ReadText (stored bytes.now) result records.old records.new outcome.old outcome.new }
 {
     exports::read::statement_read(bytes, records, outcome)
 }
@@ -49,7 +49,7 @@ pub extern "C" fn statement_steps(
     separators: &mut [u64],
     outcome: &mut [u64],
 ) -> u64
-    ensures { ReadText (stored bytes.now) result queries.old queries.new separators.old separators.new outcome.old outcome.new }
+    ensures { StepsText (stored bytes.now) result queries.old queries.new separators.old separators.new outcome.old outcome.new }
 {
     interface::statement::statement_steps(bytes, queries, separators, outcome)
 }

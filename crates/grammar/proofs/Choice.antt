@@ -1,7 +1,7 @@
 -- The second of two forms, where the first did not fit and left the place as it was.
-use Rattle.std.proofs.Common.{◌≡◌, ℕ, Some, None, Option, sym, refl, ap, ◌∙◌}
+use Rattle.std.proofs.Common.{ℕ, None, Option, ap, ◌∙◌}
 use Rattle.grammar.specs.Form.{Outcome, first_of}
-use Rattle.grammar.specs.Gives.{GivesValue, told, left}
+use Rattle.grammar.specs.Gives.{GivesValue, left}
 
 pub second : {V : Type 0} (o : Outcome V) (f : ℕ → Outcome V) (r : Option V) (p m q : ℕ) → GivesValue o None p m → GivesValue (f m) r m q → GivesValue (first_of o (f p)) r p q
 second o f r p m q g h =

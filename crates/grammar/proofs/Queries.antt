@@ -1,11 +1,11 @@
 -- The query and the separator pass the tests, so that the laws hold of them.
-use Rattle.std.proofs.Common.{◌≡◌, ℕ, ◌+◌, ◌-◌, ◌<◌, ◌≤◌, Bool, true, false, cond, List, [], ◌∷◌, ◌++◌, length, get_or, Some, None, codes, Option, sym, refl, ap, ◌∙◌, subst, inl, inr, ⊎_elim, arith, length-append}
+use Rattle.std.proofs.Common.{◌≡◌, ℕ, ◌+◌, ◌-◌, ◌<◌, true, false, cond, List, ◌∷◌, ◌++◌, length, get_or, Some, None, codes, refl, ap, ◌∙◌, subst, inl, inr, ⊎_elim, arith}
 use Rattle.std.proofs.lemmas.Bool.{cases_lt}
 use Rattle.std.proofs.lemmas.List.{get_or_append_left, get_or-append-add}
 use Rattle.grammar.specs.Classes.{is, blank}
-use Rattle.grammar.specs.Rule.{Rule, look, then, ends}
+use Rattle.grammar.specs.Rule.{Rule, look, ends}
 use Rattle.grammar.specs.Tokens.{byte, spelled, word, blanks, any_blanks}
-use Rattle.grammar.specs.Form.{Kind, flag, query, Value, Form, give, fail, when, skip, decided, reads}
+use Rattle.grammar.specs.Form.{Kind, flag, query, Form, give, fail, when, skip, decided, reads}
 use Rattle.grammar.specs.Forms.{ranging, percentage, browser, electron_or_browser, among, letters, lettered, unknown, formed, querying, separating}
 use Rattle.grammar.specs.Stands.{Longest, longest_end, longest_stop, longest_on}
 use Rattle.grammar.specs.Tests.{TameForm, ShyForm, SolidForm}

@@ -1,5 +1,5 @@
 -- What stands before a place does not matter to a rule that begins there.
-use Rattle.std.proofs.Common.{◌≡◌, ℕ, zero, suc, ◌+◌, Bool, true, false, cond, List, [], ◌∷◌, get_or, drop, is_some, Some, None, Option, sym, refl, ap, ◌∙◌, add-zero, add_assoc, arith, drop-drop}
+use Rattle.std.proofs.Common.{◌≡◌, ℕ, ◌+◌, Bool, true, false, cond, List, get_or, drop, is_some, Some, None, Option, sym, refl, ap, ◌∙◌, add-zero, add_assoc, arith, drop-drop}
 use Rattle.std.specs.Option.{option_map}
 use Rattle.std.proofs.lemmas.List.{get_or-drop}
 use Rattle.grammar.specs.Rule.{Rule, nothing, one, look, run, then, else, unless, ends, span, next, or_else, without}

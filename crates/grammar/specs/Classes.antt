@@ -1,5 +1,5 @@
 -- Classes of codes. Letters and digits are ASCII; 256, which stands for no byte, is in none.
-use Rattle.std.specs.Prelude.{ℕ, ◌+◌, Bool, cond, not, ◌&&◌, ◌||◌, ◌==◌, nat_le}
+use Rattle.std.specs.Prelude.{ℕ, ◌+◌, Bool, cond, ◌&&◌, ◌||◌, ◌==◌, nat_le}
 
 -- a capital letter as its small one, any other code as itself
 abbrev pub lower : ℕ → ℕ

@@ -1,5 +1,5 @@
 -- The numbers that digits say.
-use Rattle.std.specs.Prelude.{ℕ, ◌+◌, ◌-◌, ◌*◌, ◌%◌, Bool, cond, List, [], ◌∷◌, length, ℤ, pos, neg_ℤ, fold, ◌==◌, nat_le}
+use Rattle.std.specs.Prelude.{ℕ, ◌+◌, ◌-◌, ◌*◌, ◌%◌, Bool, cond, List, length, ℤ, pos, neg_ℤ, fold, ◌==◌, nat_le}
 use Rattle.std.specs.Int.{int_wrap, w32}
 use Rattle.grammar.specs.declared.query.BaselineKind.{BaselineKind}
 use Rattle.grammar.specs.declared.query.BaselineKind.TheVariants.{Year, LegacyYear, InvalidYear}

@@ -1,5 +1,5 @@
 -- Forms: rules one after another, whose parts make a value.
-use Rattle.std.specs.Prelude.{◌≡◌, ℕ, ◌-◌, Bool, true, false, List, take, drop, ℤ, Some, None, Option}
+use Rattle.std.specs.Prelude.{ℕ, ◌-◌, Bool, true, false, List, take, drop, ℤ, Some, None, Option}
 use Rattle.grammar.specs.declared.query.Span.{Span}
 use Rattle.grammar.specs.declared.query.Comparator.{Comparator}
 use Rattle.grammar.specs.declared.query.VersionRange.{VersionRange}

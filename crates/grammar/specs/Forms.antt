@@ -1,7 +1,6 @@
 -- The query forms, the query and the separator.
-use Rattle.std.specs.Prelude.{ℕ, ◌+◌, ◌*◌, Bool, true, false, cond, not, ◌&&◌, List, [], ◌∷◌, ℤ, pos, Some, None, codes, Option, slice_index_or}
+use Rattle.std.specs.Prelude.{ℕ, ◌+◌, ◌*◌, Bool, true, false, cond, List, [], ◌∷◌, ℤ, pos, Some, None, codes, Option, slice_index_or}
 use Rattle.std.specs.Option.{unwrap_or}
-use Rattle.grammar.specs.declared.query.Span.{Span}
 use Rattle.grammar.specs.declared.query.Comparator.TheVariants.{Less, LessOrEqual, Greater, GreaterOrEqual}
 use Rattle.grammar.specs.declared.query.VersionRange.TheVariants.{Bounded, Unbounded, Accurate, Preview}
 use Rattle.grammar.specs.declared.query.Stats.TheVariants.{Global, Region}
@@ -10,10 +9,10 @@ use Rattle.grammar.specs.declared.query.SupportKind.TheVariants.{Fully, Partiall
 use Rattle.grammar.specs.declared.query.BaselineKind.{BaselineKind}
 use Rattle.grammar.specs.declared.query.BaselineKind.TheVariants.{NewlyAvailable, NewlyAvailableOnDate, WidelyAvailable, WidelyAvailableOnDate}
 use Rattle.grammar.specs.declared.query.QueryAtom.TheVariants.{Last, Unreleased, Years, Since, Percentage, Cover, Supports, Electron, Node, Browser, Baseline, FirefoxESR, OperaMini, CurrentNode, MaintainedNode, Phantom, Defaults, Dead, Unknown}
-use Rattle.grammar.specs.Classes.{is, folds, letter, digit, blank, lower}
+use Rattle.grammar.specs.Classes.{folds, letter, digit, blank}
 use Rattle.grammar.specs.Decimal.{value, count, calendar, signed_year, baseline_year}
 use Rattle.grammar.specs.Rule.{Rule, one, look, then, else, unless, ends}
-use Rattle.grammar.specs.Tokens.{byte, maybe, any, some, spelled, word, plural, blanks, any_blanks, numeric, version, name, feature, region, versions, reserved, unknown_run}
+use Rattle.grammar.specs.Tokens.{byte, maybe, some, spelled, word, plural, blanks, any_blanks, numeric, version, name, feature, region, versions, reserved, unknown_run}
 use Rattle.grammar.specs.Form.{Kind, part, flag, number, year, option, date, comparator, range, stats, baseline, atom, query, Form, give, fail, spot, read, bind, when, first, skip, optional, whether}
 
 -- `<`, `<=`, `>` or `>=`, the longer first

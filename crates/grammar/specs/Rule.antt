@@ -1,5 +1,5 @@
 -- Rules: what may stand at a place of a text, a list of codes. Past the text's end the code is 256.
-use Rattle.std.specs.Prelude.{ℕ, suc, ◌+◌, Bool, true, false, cond, List, [], ◌∷◌, drop, is_some, Some, None, Option, slice_index_or}
+use Rattle.std.specs.Prelude.{ℕ, suc, ◌+◌, Bool, cond, List, [], ◌∷◌, drop, is_some, Some, None, Option, slice_index_or}
 
 pub data Rule : Type 0 where
   -- nothing

@@ -1,13 +1,13 @@
 -- A join, cell by cell.
-use Rattle.std.proofs.Common.{◌≡◌, ℕ, zero, suc, ◌+◌, ◌-◌, ◌<◌, ◌≤◌, List, [], ◌∷◌, ◌++◌, length, take, drop, Some, None, Ok, Err, sym, refl, ap, ◌∙◌, arith, lit≤, length-append}
+use Rattle.std.proofs.Common.{◌≡◌, ℕ, zero, suc, ◌+◌, ◌-◌, ◌<◌, ◌≤◌, List, [], ◌∷◌, ◌++◌, length, take, drop, Some, Ok, Err, sym, refl, ap, ◌∙◌, arith, lit≤, length-append}
 use native.Mathlib.Bridge.{le_prop}
 use Rattle.std.specs.List.{slice_get}
-use Rattle.std.proofs.lemmas.List.{take_at, drop_at, append_assoc, nil_from_length, length_push}
+use Rattle.std.proofs.lemmas.List.{take_at, drop_at, append_assoc, length_push}
 use Rattle.std.proofs.lemmas.Bool.{cond-true, cond-false, le-leb, lt-leb}
 use Rattle.texts.specs.declared.cell.Cell.{Cell}
-use Rattle.texts.specs.declared.cell.Cell.TheVariants.{Byte, Bad}
+use Rattle.texts.specs.declared.cell.Cell.TheVariants.{Byte}
 use Rattle.texts.specs.Cells.{answer, told, overfull}
-use Rattle.layers.specs.Joins.{side_by_side, fitted, joined, Joining}
+use Rattle.layers.specs.Joins.{side_by_side, joined, Joining}
 
 size : (xs ys : List Cell) → length (side_by_side xs ys) ≡ length xs + 1 + length ys
 size xs ys = length-append xs (Byte 44 ∷ ys) ∙ (omega arith)

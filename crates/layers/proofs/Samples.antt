@@ -1,8 +1,8 @@
 -- Samples of covers and joins.
-use Rattle.std.proofs.Common.{◌≡◌, List, [], ◌∷◌, ◌++◌, length, replicate, refl, lit≤}
+use Rattle.std.proofs.Common.{◌≡◌, [], ◌∷◌, refl, lit≤}
 use Rattle.texts.specs.declared.cell.Cell.{Cell}
 use Rattle.texts.specs.declared.cell.Cell.TheVariants.{Byte, Bad}
-use Rattle.texts.specs.Cells.{bytes, overfull}
+use Rattle.texts.specs.Cells.{bytes}
 use Rattle.layers.specs.Covers.{covered}
 use Rattle.layers.specs.Joins.{joined}
 

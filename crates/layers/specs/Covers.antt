@@ -1,5 +1,5 @@
 -- A text whose comments and ends of lines are shown as spaces.
-use Rattle.std.specs.Prelude.{◌≡◌, ℕ, zero, suc, ◌≤◌, Bool, true, false, cond, not, ◌&&◌, ◌||◌, List, [], ◌∷◌, length, Some, None, Ok, Err, Option, Result, ◌==◌, refl}
+use Rattle.std.specs.Prelude.{◌≡◌, ℕ, zero, suc, ◌≤◌, Bool, false, cond, not, ◌&&◌, ◌||◌, List, [], ◌∷◌, length, Some, None, Ok, Err, Option, Result, ◌==◌, refl}
 use Rattle.std.proofs.Common.{ap, arith}
 use Rattle.texts.specs.declared.cell.Fault.{Fault}
 use Rattle.texts.specs.declared.cell.Cell.{Cell}

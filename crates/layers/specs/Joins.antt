@@ -1,9 +1,9 @@
 -- Two texts with a comma between them.
-use Rattle.std.specs.Prelude.{◌≡◌, ℕ, ◌+◌, ◌<◌, ◌≤◌, cond, List, [], ◌∷◌, ◌++◌, length, take, drop, nat_le}
-use Rattle.std.proofs.Common.{arith, lit≤, length-append}
+use Rattle.std.specs.Prelude.{◌≡◌, ◌+◌, ◌<◌, ◌≤◌, cond, List, [], ◌∷◌, ◌++◌, length, take, drop, nat_le}
+use Rattle.std.proofs.Common.{lit≤}
 use Rattle.std.proofs.lemmas.Bool.{cond_both, leb-true}
 use Rattle.texts.specs.declared.cell.Cell.{Cell}
-use Rattle.texts.specs.declared.cell.Cell.TheVariants.{Byte, Bad}
+use Rattle.texts.specs.declared.cell.Cell.TheVariants.{Byte}
 use Rattle.texts.specs.Cells.{overfull}
 
 -- the first, a comma and the second

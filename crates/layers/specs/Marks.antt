@@ -1,5 +1,5 @@
 -- A set of places as the bits of words of 64 bits.
-use Rattle.std.specs.Prelude.{ℕ, ◌/◌, ◌%◌, ◌^◌, Bool, ◌&&◌, List, ◌==◌, slice_index}
+use Rattle.std.specs.Prelude.{ℕ, ◌/◌, ◌%◌, ◌^◌, Bool, List, ◌==◌, slice_index}
 
 -- the bit of a number at a place
 abbrev pub bit : ℕ → ℕ → ℕ

@@ -1,11 +1,11 @@
 -- Where the word `electron` stands, only a range and the unknown run are tried, behind it.
-use Rattle.std.proofs.Common.{◌≡◌, ℕ, ◌+◌, Bool, true, false, cond, eqb, List, [], ◌∷◌, get_or, Some, None, codes, Option, unwrap_or, sym, refl, ap, ◌∙◌, arith}
+use Rattle.std.proofs.Common.{◌≡◌, ℕ, ◌+◌, Bool, true, false, cond, eqb, List, get_or, Some, None, codes, Option, unwrap_or, sym, refl, ap, ◌∙◌, arith}
 use Rattle.std.proofs.lemmas.Bool.{eqb-true}
 use Rattle.grammar.specs.Classes.{folds, lower, letter}
-use Rattle.grammar.specs.Form.{atom, Form, Outcome, reads, give, bind, when, first, fail, decided, first_of}
+use Rattle.grammar.specs.Form.{atom, reads, give, bind, when, first, fail, decided, first_of}
 use Rattle.grammar.specs.Forms.{percentage, browser, electron_or_browser, letters, lettered, among, committed, formed, unknown, ranging}
 use Rattle.grammar.specs.Gives.{GivesValue, left}
-use Rattle.grammar.specs.Rule.{ends, one, look, next}
+use Rattle.grammar.specs.Rule.{ends, look, next}
 use Rattle.grammar.specs.Tokens.{word, spelled, boundary}
 use Rattle.grammar.specs.declared.query.QueryAtom.{QueryAtom}
 use Rattle.grammar.specs.declared.query.QueryAtom.TheVariants.{Electron}

@@ -1,6 +1,6 @@
 -- A query behind its `not`, or without one.
-use Rattle.std.proofs.Common.{◌≡◌, ℕ, Bool, true, false, cond, List, Some, None, codes, Option, unwrap_or, sym, refl, ap, ◌∙◌}
-use Rattle.grammar.specs.Form.{Outcome, reads, onward, decided, atom, query}
+use Rattle.std.proofs.Common.{◌≡◌, ℕ, Bool, true, false, List, Some, None, codes, Option, unwrap_or, refl, ap, ◌∙◌}
+use Rattle.grammar.specs.Form.{reads, onward, decided, atom}
 use Rattle.grammar.specs.Forms.{formed, querying, committed, missed}
 use Rattle.grammar.specs.Gives.{Gives, GivesValue}
 use Rattle.grammar.specs.Rule.{ends, then}

@@ -1,11 +1,11 @@
 -- The unknown run: no operator stands within blanks that begin with none.
-use Rattle.std.proofs.Common.{◌≡◌, ℕ, zero, suc, ◌+◌, ◌<◌, ◌≤◌, Bool, true, false, cond, ◌||◌, eqb, leb, List, length, get_or, drop, is_some, Some, None, Option, sym, refl, ap, ◌∙◌, ⊎_elim, arith}
-use Rattle.std.proofs.lemmas.Bool.{cond-true, cond-false, both_ways, or_cases, eqb-true, le-leb, ne_eqb}
+use Rattle.std.proofs.Common.{◌≡◌, ℕ, zero, suc, ◌+◌, ◌<◌, Bool, true, false, cond, eqb, List, length, get_or, drop, is_some, Some, None, Option, sym, refl, ap, ◌∙◌, ⊎_elim, arith}
+use Rattle.std.proofs.lemmas.Bool.{or_cases, eqb-true}
 use Rattle.grammar.specs.Classes.{is, blank, present}
-use Rattle.grammar.specs.Rule.{Rule, ends, one, look, run, span, next, or_else, without}
-use Rattle.grammar.specs.Tokens.{any, some, blanks, byte, conjunction, operator, plain, unknown_run}
+use Rattle.grammar.specs.Rule.{ends, one, look, run, span, next, or_else, without}
+use Rattle.grammar.specs.Tokens.{blanks, conjunction, operator, plain, unknown_run}
 use Rattle.scanner.proofs.Inside.{inside}
-use Rattle.scanner.proofs.Spans.{fits, looks, span_more, span_stop, run_more, run_stop}
+use Rattle.scanner.proofs.Spans.{fits, looks, span_more, span_stop, run_more}
 use Rattle.parser.specs.Stride.{stride}
 
 blank_code : (b : ℕ) → blank b ≡ true → (is 44 b ≡ false) × (present b ≡ true)

@@ -1,5 +1,5 @@
 -- Samples of ill-formed sequences and of the order of the checks.
-use Rattle.std.proofs.Common.{◌≡◌, List, [], ◌∷◌, Some, None, Ok, Err, refl}
+use Rattle.std.proofs.Common.{◌≡◌, [], ◌∷◌, Some, None, Ok, Err, refl}
 use Rattle.texts.specs.declared.cell.Fault.{Fault}
 use Rattle.texts.specs.declared.cell.Cell.TheVariants.{Byte, Bad}
 use Rattle.reader.specs.declared.refusal.Refusal.TheVariants.{BadCell, IllFormed}

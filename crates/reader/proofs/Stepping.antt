@@ -1,13 +1,11 @@
 -- A query that is given ends behind its place and within the text.
-use Rattle.std.proofs.Common.{◌≡◌, ℕ, zero, suc, ◌+◌, ◌<◌, ◌≤◌, Bool, true, false, cond, leb, List, length, Some, None, Ok, Err, Option, Result, sym, refl, ap, ◌∙◌, arith}
+use Rattle.std.proofs.Common.{◌≡◌, ℕ, zero, suc, ◌<◌, ◌≤◌, Bool, false, leb, List, length, Some, None, Ok, Err, Result, sym, refl, ap, arith}
 use Rattle.std.proofs.lemmas.Bool.{cond-true, cond-false, le-leb, lt-leb}
 use Rattle.grammar.specs.Form.{Outcome, reads, query, flag}
-use Rattle.grammar.specs.Forms.{querying, missed, separating, unseparated}
+use Rattle.grammar.specs.Forms.{querying, missed, separating}
 use Rattle.grammar.proofs.Queries.{query_fits, separator_fits}
 use Rattle.grammar.specs.declared.query.QueryAtom.{QueryAtom}
 use Rattle.grammar.specs.declared.query.SingleQuery.{SingleQuery}
-use Rattle.reader.specs.declared.refusal.Refusal.{Refusal}
-use Rattle.reader.specs.declared.step.Step.{Step}
 use Rattle.reader.specs.declared.step.Step.TheVariants.{End}
 use Rattle.reader.specs.Steps.{found, query_at, at_first, behind, query_k, answered, stepped}
 

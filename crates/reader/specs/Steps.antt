@@ -1,5 +1,5 @@
 -- The queries of a text by their number, and what a step of a reader answers.
-use Rattle.std.specs.Prelude.{ℕ, zero, suc, ◌+◌, max, Bool, true, false, cond, List, length, Some, None, Ok, Err, Option, Result, nat_le}
+use Rattle.std.specs.Prelude.{ℕ, zero, suc, ◌+◌, max, Bool, false, cond, List, length, Some, None, Ok, Err, Result, nat_le}
 use Rattle.grammar.specs.Form.{Outcome, reads}
 use Rattle.grammar.specs.Forms.{querying, missed, separating, unseparated}
 use Rattle.grammar.specs.declared.query.QueryAtom.{QueryAtom}

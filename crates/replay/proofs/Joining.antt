@@ -1,5 +1,5 @@
 -- Two texts with a comma between: their queries, and that what is trimmed may be joined.
-use Rattle.std.proofs.Common.{◌≡◌, ℕ, suc, ◌+◌, ◌-◌, ◌<◌, ◌≤◌, Bool, true, false, cond, leb, List, [], ◌∷◌, ◌++◌, map, reverse, length, get_or, Some, sym, refl, ap, ◌∙◌, subst, arith}
+use Rattle.std.proofs.Common.{◌≡◌, ℕ, suc, ◌+◌, ◌-◌, ◌<◌, Bool, true, false, cond, leb, List, [], ◌∷◌, ◌++◌, map, reverse, length, get_or, Some, sym, refl, ap, ◌∙◌, subst, arith}
 use lib.ListN.{length-reverse, length-map}
 use Rattle.std.proofs.lemmas.List.{get_or-reverse, append-nil}
 use Rattle.std.proofs.lemmas.Bool.{cond-true, le-leb}

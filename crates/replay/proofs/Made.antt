@@ -13,7 +13,7 @@ use Rattle.reader.proofs.Places.{place_fits, place_next}
 use Rattle.replay.specs.declared.calls.Call.{Call}
 use Rattle.replay.specs.declared.calls.Call.TheVariants.{Step, StepBack, StartOver, Place}
 use Rattle.replay.specs.declared.calls.Answer.{Answer}
-use Rattle.replay.specs.declared.calls.Answer.TheVariants.{Given, End, Refused, Moved, Anew, At}
+use Rattle.replay.specs.declared.calls.Answer.TheVariants.{Given, Refused, Moved, Anew, At}
 use Rattle.replay.specs.declared.calls.Exchange.{Exchange}
 use Rattle.replay.specs.Calls.{call_of, step_told, back_told}
 use Rattle.replay.specs.Runs.{Does, gives, ends, lacks, backs, stays, restarts, tells, Runs, none, more, Begun, Stands, Asked}

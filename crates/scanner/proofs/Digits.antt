@@ -1,14 +1,14 @@
 -- A run of digits, digit by digit, with a number that is some function h of the value so far.
-use Rattle.std.proofs.Common.{◌≡◌, ℕ, suc, ◌+◌, ◌-◌, ◌*◌, ◌/◌, ◌%◌, ◌<◌, ◌≤◌, Bool, true, false, cond, leb, List, [], ◌∷◌, length, get_or, take, drop, Some, None, Option, sym, refl, ap, ◌∙◌, add-zero, mul_assoc, zero-add, arith, length-drop}
+use Rattle.std.proofs.Common.{◌≡◌, ℕ, ◌+◌, ◌-◌, ◌*◌, ◌/◌, ◌%◌, ◌<◌, ◌≤◌, true, false, leb, List, [], length, get_or, take, drop, Some, sym, refl, ap, ◌∙◌, mul_assoc, zero-add, arith, length-drop}
 use native.Mathlib.Nat.{sub_self, mod-add-mod, add-mul-mod_self_left, div-add-mod}
-use Rattle.std.proofs.lemmas.List.{get_or-drop, drop_more}
+use Rattle.std.proofs.lemmas.List.{get_or-drop}
 use Rattle.std.proofs.lemmas.List.Sums.{fold_more}
 use Rattle.std.proofs.lemmas.Bool.{and_parts, leb-true}
 use Rattle.grammar.specs.Classes.{digit}
 use Rattle.grammar.specs.Decimal.{more, value}
 use Rattle.grammar.specs.Form.{between, valued}
 use Rattle.grammar.specs.Gives.{GivesValue}
-use Rattle.grammar.specs.Rule.{ends, one, look, run, span}
+use Rattle.grammar.specs.Rule.{ends, look, span}
 use Rattle.grammar.specs.Tokens.{any, some}
 use Rattle.scanner.proofs.Inside.{inside}
 use Rattle.scanner.proofs.Spans.{fits, looks, span_more, span_stop, span_within}

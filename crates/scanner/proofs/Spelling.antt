@@ -1,9 +1,9 @@
 -- A spelled word, byte by byte.
-use Rattle.std.proofs.Common.{◌≡◌, ℕ, ◌+◌, ◌<◌, ◌≤◌, Bool, true, false, cond, List, [], ◌∷◌, length, get_or, drop, Some, None, Option, sym, refl, ap, ◌∙◌}
+use Rattle.std.proofs.Common.{◌≡◌, ℕ, ◌+◌, ◌<◌, ◌≤◌, true, false, List, length, get_or, drop, Some, None, ap, ◌∙◌}
 use Rattle.std.proofs.lemmas.List.{drop_more, drop_all}
 use Rattle.grammar.specs.Classes.{folds}
 use Rattle.grammar.specs.Gives.{Gives}
-use Rattle.grammar.specs.Rule.{Rule, ends, one, next}
+use Rattle.grammar.specs.Rule.{ends, one, next}
 use Rattle.grammar.specs.Tokens.{spelled}
 
 spelled_more : (w t : List ℕ) (i p : ℕ) → i < length w → ends (spelled (drop i w)) t p ≡ next (ends (one (folds (get_or w i 0))) t p) (λ e. ends (spelled (drop (i + 1) w)) t e)

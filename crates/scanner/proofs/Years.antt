@@ -1,16 +1,11 @@
 -- Years: a value that stops at 2^32, the kind of a baseline year, and years with a sign.
-use Rattle.std.proofs.Common.{◌≡◌, ℕ, ◌+◌, ◌-◌, ◌*◌, ◌%◌, ◌^◌, ◌<◌, ◌≤◌, min, Bool, true, false, cond, eqb, leb, List, length, take, drop, ℤ, pos, ◌-ℤ◌, neg_ℤ, Some, sym, refl, ap, ◌∙◌, ⊎_elim, arith, length-drop, w32, SFits, to_z, of_z}
+use Rattle.std.proofs.Common.{◌≡◌, ℕ, ◌+◌, ◌-◌, ◌*◌, ◌%◌, ◌^◌, ◌<◌, ◌≤◌, min, leb, List, length, drop, ℤ, pos, ◌-ℤ◌, neg_ℤ, sym, refl, ap, ◌∙◌, ⊎_elim, arith, length-drop, w32, SFits, to_z, of_z}
 use Rattle.std.specs.Int.{int_wrap}
 use Rattle.std.proofs.lemmas.List.{length-take-le}
-use Rattle.std.proofs.lemmas.Int.{wrapping_neg_is, int_wrap-sub_right, ints, to_z-of_z}
-use Rattle.std.proofs.lemmas.Bool.{cases_lt, cond-true, cond-false, le-leb, lt-leb}
-use Rattle.grammar.specs.Classes.{digit}
-use Rattle.grammar.specs.Decimal.{more, value, signed_year, year_kind, baseline_year}
+use Rattle.std.proofs.lemmas.Int.{wrapping_neg_is, int_wrap-sub_right, ints}
+use Rattle.std.proofs.lemmas.Bool.{cases_lt, cond-false, lt-leb}
+use Rattle.grammar.specs.Decimal.{more, year_kind}
 use Rattle.grammar.specs.Form.{between}
-use Rattle.grammar.specs.Rule.{ends, look}
-use Rattle.grammar.specs.Tokens.{any}
-use Rattle.grammar.specs.declared.query.BaselineKind.{BaselineKind}
-use Rattle.grammar.specs.declared.query.BaselineKind.TheVariants.{InvalidYear}
 
 -- a digit more of a value that stops at 2^32
 pub capped_step : (v n d b m : ℕ) → n ≡ min v 4294967296 → d ≡ b - 48 → m ≡ min (n * 10 + d) 4294967296 → m ≡ min (more v b) 4294967296

@@ -1,5 +1,5 @@
 -- Samples of white space at the ends of codes.
-use Rattle.std.proofs.Common.{◌≡◌, List, [], ◌∷◌, refl}
+use Rattle.std.proofs.Common.{◌≡◌, [], ◌∷◌, refl}
 use Rattle.texts.specs.Spaces.{in_front, behind}
 
 -- a blank, U+00A0 and U+3000 before a letter

@@ -1,11 +1,11 @@
 -- A trim leaves no white space at either end, so a trim of a trim is the trim.
-use Rattle.std.proofs.Common.{◌≡◌, ℕ, zero, suc, ◌+◌, ◌-◌, ◌<◌, ◌≤◌, Bool, true, false, cond, ◌&&◌, ◌||◌, List, [], ◌∷◌, ◌++◌, reverse, length, get_or, take, drop, sym, refl, ap, ◌∙◌, arith}
+use Rattle.std.proofs.Common.{◌≡◌, ℕ, zero, suc, ◌-◌, ◌≤◌, List, [], ◌∷◌, ◌++◌, reverse, length, get_or, take, drop, sym, refl, ap, ◌∙◌, arith}
 use lib.ListN.{length-map}
 use Rattle.std.proofs.lemmas.List.{take_all, drop_at, reverse-append, length-reverse, length-drop, take-append-drop, take-map, drop-map}
 use Rattle.std.proofs.lemmas.Bool.Decides.{nat_tests}
 use Rattle.texts.specs.declared.cell.Cell.{Cell}
 use Rattle.texts.specs.Codes.{code, codes}
-use Rattle.texts.specs.Spaces.{single, double, triple, space_from, space_back, on_space, leading, in_front, behind}
+use Rattle.texts.specs.Spaces.{space_from, space_back, on_space, leading, in_front, behind}
 use Rattle.texts.proofs.Spacing.{behind_within}
 use Rattle.texts.specs.Trim.{trimmed_front, trimmed_behind, trimmed, Clean}
 

@@ -8,7 +8,7 @@ use Rattle.reader.specs.declared.step.Step as the_step
 use Rattle.reader.specs.declared.step.Step.TheVariants as outcome
 use Rattle.reader.specs.Steps.{stepped, count_after, place_after}
 use Rattle.replay.specs.declared.calls.Call.TheVariants.{Step}
-use Rattle.replay.specs.declared.calls.Answer.TheVariants.{Given, End, Refused}
+use Rattle.replay.specs.declared.calls.Answer.TheVariants.{Refused}
 use Rattle.replay.specs.Calls.{step_told}
 use Rattle.replay.specs.Law.{giving, ending}
 use Rattle.replay.specs.Runs.{Does, lacks, Runs, none, Stands, Asked}

@@ -1,4 +1,4 @@
-use Rattle.std.proofs.Common.{◌≡◌, sym, ap, ◌∙◌}
+use Rattle.std.proofs.Common.{sym, ap, ◌∙◌}
 use Rattle.reader.specs.Steps.{shown, stepped}
 use Rattle.exports.proofs.Reading.{sofar_more, sofar_done}
 use Rattle.exports.proofs.read.read_all.Goals as goal

@@ -3,7 +3,7 @@ use Rattle.texts.specs.Codes.{codes}
 use Rattle.grammar.specs.Rule.{span}
 use Rattle.grammar.specs.Tokens.{plain}
 use Rattle.scanner.proofs.Spans.{fits, run_stop}
-use Rattle.parser.proofs.Unknowns.{Strode, strode}
+use Rattle.parser.proofs.Unknowns.{strode}
 use Rattle.parser.proofs.unknown.skip_plain.Goals as goal
 
 pub loop-place-init : goal.loop-place-init

@@ -1,4 +1,4 @@
-use Rattle.std.proofs.Common.{◌%◌, get_or, sym, refl, ◌∙◌, arith}
+use Rattle.std.proofs.Common.{◌%◌, get_or, sym, refl, arith}
 use Rattle.texts.specs.Codes.{codes}
 use Rattle.grammar.specs.Decimal.{value}
 use Rattle.grammar.specs.Form.{between}

@@ -1,10 +1,10 @@
-use Rattle.std.proofs.Common.{◌≡◌, ℕ, ◌+◌, ◌<◌, get_or, Some, sym, refl, ap, ◌∙◌, subst, arith}
+use Rattle.std.proofs.Common.{◌≡◌, get_or, Some, sym, refl, ap, ◌∙◌, arith}
 use Rattle.texts.specs.Codes.{codes}
 use Rattle.grammar.specs.Classes.{digit}
 use Rattle.grammar.specs.Decimal.{value}
 use Rattle.grammar.specs.Form.{between, valued}
 use Rattle.scanner.proofs.Digits.{one_value, digit_small}
-use Rattle.scanner.proofs.Spans.{Taken, taken}
+use Rattle.scanner.proofs.Spans.{taken}
 use Rattle.scanner.proofs.number.parse_digit.Goals as goal
 
 pub returns : goal.returns

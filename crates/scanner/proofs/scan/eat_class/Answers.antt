@@ -1,4 +1,4 @@
-use Rattle.std.proofs.Common.{sym, ◌∙◌}
+use Rattle.std.proofs.Common.{sym}
 use Rattle.texts.specs.Codes.{codes}
 use Rattle.scanner.specs.Within.{within}
 use Rattle.scanner.proofs.Inside.{none_within, inside, next_fits}

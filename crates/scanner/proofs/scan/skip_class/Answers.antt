@@ -1,4 +1,4 @@
-use Rattle.std.proofs.Common.{◌≡◌, ◌+◌, ◌<◌, length, drop, Some, sym, refl, ap, ◌∙◌, arith}
+use Rattle.std.proofs.Common.{◌≡◌, ◌+◌, ◌<◌, length, drop, Some, refl, ap, ◌∙◌, arith}
 use Rattle.texts.specs.Codes.{codes}
 use Rattle.grammar.specs.Rule.{look, span}
 use Rattle.scanner.specs.Within.{within}

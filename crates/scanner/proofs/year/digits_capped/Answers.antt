@@ -1,4 +1,4 @@
-use Rattle.std.proofs.Common.{◌+◌, ◌*◌, min, get_or, sym, refl, ap, ◌∙◌, arith}
+use Rattle.std.proofs.Common.{min, get_or, sym, arith}
 use Rattle.texts.specs.Codes.{codes}
 use Rattle.grammar.specs.Decimal.{value}
 use Rattle.grammar.specs.Form.{between}

@@ -1,4 +1,4 @@
-use Rattle.std.proofs.Common.{◌-◌, length, sym, ap, ◌∙◌}
+use Rattle.std.proofs.Common.{◌-◌, sym, ap, ◌∙◌}
 use Rattle.texts.specs.Codes.{codes}
 use Rattle.grammar.specs.Decimal.{value, year_kind, baseline_year}
 use Rattle.grammar.specs.Form.{between}

@@ -1,4 +1,3 @@
-use Rattle.std.proofs.Common.{arith}
 use Rattle.texts.proofs.Spacing.{code_from_behind, none_from_behind}
 use Rattle.texts.proofs.space.code_behind.Goals as goal
 

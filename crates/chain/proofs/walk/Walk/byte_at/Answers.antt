@@ -1,4 +1,4 @@
-use Rattle.std.proofs.Common.{◌+◌, ◌-◌, get_or, sym, ap, ◌∙◌, arith}
+use Rattle.std.proofs.Common.{◌+◌, ◌-◌, get_or, ap, ◌∙◌, arith}
 use Rattle.chain.proofs.Pieces.{piece_within, piece_byte}
 use Rattle.chain.proofs.walk.Walk.byte_at.Goals as goal
 
