@@ -26,6 +26,7 @@ extern "C" {
 #define STATEMENT_QUERY_WORDS 24
 #define STATEMENT_SEPARATOR_WORDS 2
 #define STATEMENT_OUTCOME_WORDS 5
+#define STATEMENT_READ_OUTCOME_WORDS 4 /* of statement_read: those before the count */
 
 /* The longest text, in bytes. A longer one is refused with STATEMENT_BAD_CELL and fault 5. */
 #define STATEMENT_LONGEST 16384
@@ -147,11 +148,18 @@ uint64_t statement_fill(const uint8_t *bytes, size_t bytes_len, uint64_t *querie
                         uint64_t *separators, size_t separators_len, uint64_t *outcome, size_t outcome_len);
 
 /*
- * Query by query: a record for each query that is given, also before a refusal, and for each separator between two,
- * while there is room for whole records. Answers how many queries were given, with or without room.
+ * Query by query: a record for each query that is given, also before a refusal, while there is room for whole records.
+ * Answers how many queries were given, with or without room. The outcome's first four words are written if there are
+ * four.
  */
-uint64_t statement_read(const uint8_t *bytes, size_t bytes_len, uint64_t *queries, size_t queries_len,
-                        uint64_t *separators, size_t separators_len, uint64_t *outcome, size_t outcome_len);
+uint64_t statement_read(const uint8_t *bytes, size_t bytes_len, uint64_t *records, size_t records_len,
+                        uint64_t *outcome, size_t outcome_len);
+
+/*
+ * The same, with a record for each separator between two queries too, and all five words of the outcome.
+ */
+uint64_t statement_steps(const uint8_t *bytes, size_t bytes_len, uint64_t *queries, size_t queries_len,
+                         uint64_t *separators, size_t separators_len, uint64_t *outcome, size_t outcome_len);
 
 /*
  * One word of query k (from 0), or STATEMENT_ABSENT. Each call steps through the statement: for more than a few fields

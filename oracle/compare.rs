@@ -2,7 +2,7 @@
 
 use crate::answer::{Answer, BETWEEN_WORDS, FORM, FORM_NAMES, NUMBER, OUTCOME_WORDS, Outcome, WORDS, answer, part};
 use crate::coverage::Coverage;
-use crate::layout::{OUTSIDE_BYTES, RAW_END, RAW_START, TOO_FEW_SLOTS};
+use crate::layout::{OUTSIDE_BYTES, RAW_END, RAW_START, READ_OUTCOME_WORDS, TOO_FEW_SLOTS};
 use crate::library;
 use crate::texts::GENERATORS;
 use std::io::Write;
@@ -68,6 +68,7 @@ pub fn all(count: u64) -> u64 {
 #[derive(Default)]
 struct Calls {
     steps: u64,
+    reads: u64,
     wholes: u64,
     too_few: u64,
     counts: u64,
@@ -77,7 +78,8 @@ struct Calls {
 
 impl Calls {
     fn print(&self) {
-        println!("calls: {} by steps, {} whole, of which {} with too few slots", self.steps, self.wholes, self.too_few);
+        println!("calls: {} by steps, {} without separators", self.steps, self.reads);
+        println!("calls: {} whole, of which {} with too few slots", self.wholes, self.too_few);
         println!("calls: {} counts, {} fields, {} parts", self.counts, self.fields, self.parts);
     }
 }
@@ -116,6 +118,8 @@ struct Wanted<'a> {
     queries: &'a [u64],
     separators: &'a [u64],
     outcome: Outcome,
+    /// How many of the outcome's words are written.
+    told: usize,
 }
 
 #[derive(Default)]
@@ -135,6 +139,7 @@ impl Asking {
         let records = wanted.records.as_flattened();
         let between = between(wanted);
         self.steps(text, wanted, records, &between)
+            .or_else(|| self.reads(text, wanted, records))
             .or_else(|| self.whole(text, wanted, records, &between))
             .or_else(|| self.count(text, wanted))
             .or_else(|| self.fields(text, wanted))
@@ -149,7 +154,7 @@ impl Asking {
         let slots = if scarce { self.turn / 8 % given } else { given + self.turn % 3 };
         let gaps = if scarce { self.turn / 16 % given } else { given };
         self.calls.steps += 1;
-        let count = library::read(
+        let count = library::steps(
             text,
             self.queries.lend(slots * WORDS + odd),
             self.separators.lend(gaps * BETWEEN_WORDS + odd % BETWEEN_WORDS),
@@ -161,9 +166,33 @@ impl Asking {
             queries: &records[..given.min(slots) * WORDS],
             separators: &between[..between.len().min(gaps * BETWEEN_WORDS)],
             outcome: wanted.outcome,
+            told: OUTCOME_WORDS,
         };
         let values = (0..given.min(slots)).all(|i| value_agrees(wanted, i, &self.queries.words));
         self.judge(count, &wanted_words, values)
+    }
+
+    /// The same by the call that tells no separators, every other time; its outcome has four words.
+    fn reads(&mut self, text: &[u8], wanted: &Answer<'_>, records: &[u64]) -> Option<String> {
+        if self.turn % 2 == 1 {
+            return None;
+        }
+        let given = wanted.records.len();
+        let scarce = self.turn % 8 == 6 && given > 0;
+        let slots = if scarce { self.turn / 8 % given } else { given + self.turn % 3 };
+        self.calls.reads += 1;
+        let lent = self.queries.lend(slots * WORDS + self.turn % 5);
+        let count = library::read(text, lent, self.outcome.lend(READ_OUTCOME_WORDS));
+        self.separators.lend(0);
+        let wanted_words = Wanted {
+            call: "read",
+            given: given as u64,
+            queries: &records[..given.min(slots) * WORDS],
+            separators: &[],
+            outcome: wanted.outcome,
+            told: READ_OUTCOME_WORDS,
+        };
+        self.judge(count, &wanted_words, true)
     }
 
     /// The whole reading, with just enough room or more; every fourth time with a slot too few.
@@ -191,6 +220,7 @@ impl Asking {
             queries: if filled { records } else { &[] },
             separators: if filled { between } else { &[] },
             outcome: if too_few { [TOO_FEW_SLOTS as u64, 0, 0, 0, n as u64] } else { wanted.outcome },
+            told: OUTCOME_WORDS,
         };
         self.judge(count, &wanted_words, true)
     }
@@ -257,7 +287,7 @@ impl Asking {
         let equal = front == copied && behind.iter().all(|byte| *byte == UNTOUCHED_BYTE);
         let length = right.map_or(0, |part| part.len() as u64);
         let outcome = if right.is_some() { [0, 0, 0, 0, length] } else { [OUTSIDE_BYTES as u64, 0, 0, 0, 0] };
-        let wanted_words = Wanted { call: "part", given: length, queries: &[], separators: &[], outcome };
+        let wanted_words = Wanted { call: "part", given: length, queries: &[], separators: &[], outcome, told: OUTCOME_WORDS };
         self.judge(count, &wanted_words, equal)
     }
 
@@ -267,7 +297,7 @@ impl Asking {
             && count == wanted.given
             && self.queries.holds(wanted.queries)
             && self.separators.holds(wanted.separators)
-            && self.outcome.holds(&wanted.outcome);
+            && self.outcome.holds(&wanted.outcome[..wanted.told]);
         let difference = (!equal).then(|| self.told(count, wanted));
         self.queries.wipe();
         self.separators.wipe();

@@ -4,6 +4,15 @@ unsafe extern "C" {
     fn statement_read(
         bytes: *const u8,
         bytes_len: usize,
+        records: *mut u64,
+        records_len: usize,
+        outcome: *mut u64,
+        outcome_len: usize,
+    ) -> u64;
+
+    fn statement_steps(
+        bytes: *const u8,
+        bytes_len: usize,
         queries: *mut u64,
         queries_len: usize,
         separators: *mut u64,
@@ -41,11 +50,26 @@ unsafe extern "C" {
     ) -> u64;
 }
 
-/// Reads the bytes query by query, lending these words. Answers how many queries were given.
-pub fn read(bytes: &[u8], queries: &mut [u64], separators: &mut [u64], outcome: &mut [u64]) -> u64 {
+/// Reads the bytes query by query, lending these words for the records. Answers how many queries were given.
+pub fn read(bytes: &[u8], records: &mut [u64], outcome: &mut [u64]) -> u64 {
     // SAFETY: each pointer and length are those of one slice, lent for the call.
     unsafe {
         statement_read(
+            bytes.as_ptr(),
+            bytes.len(),
+            records.as_mut_ptr(),
+            records.len(),
+            outcome.as_mut_ptr(),
+            outcome.len(),
+        )
+    }
+}
+
+/// The same, with the separators too.
+pub fn steps(bytes: &[u8], queries: &mut [u64], separators: &mut [u64], outcome: &mut [u64]) -> u64 {
+    // SAFETY: as above.
+    unsafe {
+        statement_steps(
             bytes.as_ptr(),
             bytes.len(),
             queries.as_mut_ptr(),

@@ -31,7 +31,7 @@ pub fn print() {
         let text = text.as_bytes();
         assert_eq!(text.len(), LONGEST);
         let mut given = 0;
-        let ours = best(|| given = library::read(black_box(text), &mut queries, &mut separators, &mut outcome));
+        let ours = best(|| given = library::steps(black_box(text), &mut queries, &mut separators, &mut outcome));
         let whole = best(|| given = library::fill(black_box(text), &mut queries, &mut separators, &mut outcome));
         let theirs = best(|| {
             let read = std::str::from_utf8(black_box(text)).map(|text| parse_browserslist_query(text).is_ok());

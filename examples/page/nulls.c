@@ -24,7 +24,8 @@ int main(void)
 
     expect("count of nothing", statement_count(NULL, 0, NULL, 0), 0);
     expect("fill of nothing", statement_fill(NULL, 0, NULL, 0, NULL, 0, NULL, 0), 0);
-    expect("read of nothing", statement_read(NULL, 0, NULL, 0, NULL, 0, NULL, 0), 0);
+    expect("read of nothing", statement_read(NULL, 0, NULL, 0, NULL, 0), 0);
+    expect("steps of nothing", statement_steps(NULL, 0, NULL, 0, NULL, 0, NULL, 0), 0);
     expect("field of nothing", statement_field(NULL, 0, 0, STATEMENT_FORM), STATEMENT_ABSENT);
     expect("part of nothing", statement_part(NULL, 0, 0, 0, NULL, 0, NULL, 0), 0);
     expect("offset of nothing", statement_offset(NULL, 0), 0);
@@ -35,7 +36,8 @@ int main(void)
     expect("chain text of nothing", statement_chain_text(NULL, 0, 0, NULL, 0), 0);
 
     expect("count of two", statement_count(two, len, NULL, 0), 2);
-    expect("read of two", statement_read(two, len, NULL, 0, NULL, 0, NULL, 0), 2);
+    expect("read of two", statement_read(two, len, NULL, 0, NULL, 0), 2);
+    expect("steps of two", statement_steps(two, len, NULL, 0, NULL, 0, NULL, 0), 2);
     expect("fill of two into nothing", statement_fill(two, len, NULL, 0, NULL, 0, outcome, STATEMENT_OUTCOME_WORDS), 0);
     expect("its refusal", outcome[STATEMENT_REFUSAL], STATEMENT_TOO_FEW_SLOTS);
     expect("its count", outcome[STATEMENT_COUNT], 2);
