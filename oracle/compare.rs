@@ -233,8 +233,14 @@ impl Asking {
         let count = library::count(text, self.outcome.lend(OUTCOME_WORDS));
         self.queries.lend(0);
         self.separators.lend(0);
-        let wanted_words =
-            Wanted { call: "count", given: wanted.outcome[4], queries: &[], separators: &[], outcome: wanted.outcome };
+        let wanted_words = Wanted {
+            call: "count",
+            given: wanted.outcome[4],
+            queries: &[],
+            separators: &[],
+            outcome: wanted.outcome,
+            told: OUTCOME_WORDS,
+        };
         self.judge(count, &wanted_words, true)
     }
 
@@ -287,7 +293,8 @@ impl Asking {
         let equal = front == copied && behind.iter().all(|byte| *byte == UNTOUCHED_BYTE);
         let length = right.map_or(0, |part| part.len() as u64);
         let outcome = if right.is_some() { [0, 0, 0, 0, length] } else { [OUTSIDE_BYTES as u64, 0, 0, 0, 0] };
-        let wanted_words = Wanted { call: "part", given: length, queries: &[], separators: &[], outcome, told: OUTCOME_WORDS };
+        let wanted_words =
+            Wanted { call: "part", given: length, queries: &[], separators: &[], outcome, told: OUTCOME_WORDS };
         self.judge(count, &wanted_words, equal)
     }
 
