@@ -1,22 +1,17 @@
 -- The walk along a chain: one more piece, and the end.
-use Rattle.std.proofs.Common.{◌≡◌, ℕ, zero, suc, ◌+◌, ◌-◌, ◌*◌, ◌<◌, ◌≤◌, ◌≢◌, List, [], ◌∷◌, ◌++◌, length, get_or, take, drop, set, Some, None, sym, refl, ap, ◌∙◌, ⊎_elim, add-one, arith, length-append, length-drop, length-take}
-use Rattle.std.proofs.lemmas.List.{get_or-set_same, get_or-set_other, drop-take, take-take, drop-drop, append_assoc, map-append}
-use Rattle.std.proofs.lemmas.Bool.{cases_eq}
-use Rattle.texts.specs.declared.cell.Fault.{Fault}
+use Rattle.std.proofs.Common.{◌≡◌, ℕ, zero, suc, ◌+◌, ◌-◌, ◌*◌, ◌<◌, ◌≤◌, List, [], ◌∷◌, ◌++◌, length, take, drop, Some, None, sym, ap, ◌∙◌, arith, length-append, length-drop, length-take}
+use Rattle.std.proofs.lemmas.List.{drop-take, take-take, drop-drop, append_assoc, map-append}
 use Rattle.texts.specs.declared.cell.Cell.TheVariants.{Byte, Bad}
 use Rattle.texts.specs.Cells.{bytes}
 use Rattle.chain.specs.declared.damage.Damage.{Damage}
 use Rattle.chain.specs.declared.damage.Damage.TheVariants.{TooMany}
+use Rattle.chain.specs.declared.pieces.Piece.{Piece}
 use Rattle.chain.specs.Damages.{fault_of}
 use Rattle.chain.specs.Records.{next_of, used_of, text_of}
-use Rattle.chain.specs.Chains.{records_of, record_at, damage_at, broken, unless, chain_from, chained}
+use Rattle.chain.specs.Chains.{records_of, record_at, damage_at, broken, unless, chain_from}
 use Rattle.chain.specs.Short.{taken_is}
-use Rattle.chain.specs.Walks.{gathered, Walked}
-
--- a record as the code cuts it out
-pub record_cut : (memory : List ℕ) (number : ℕ) → take (number * 64 + 64 - number * 64) (drop (number * 64) memory) ≡ record_at memory number
-record_cut memory number =
-    let size : number * 64 + 64 - number * 64 ≡ 64 = omega arith in ap (λ n. take n (drop (number * 64) memory)) size
+use Rattle.chain.specs.Walks.{gathered, piece_text, Walked}
+use Rattle.chain.proofs.Gathering.{placed_more, gathered_more}
 
 pub record_size : (memory : List ℕ) (number : ℕ) → number < records_of memory → length (record_at memory number) ≡ 64
 record_size memory number h = simp (length-take, length-drop) (omega arith)
@@ -49,74 +44,35 @@ text_size memory number there h =
     let r = record_at memory number in
     omega (arith, length-take (used_of r) (drop 4 r), length-drop 4 r, record_size memory number there)
 
--- the pieces before one more stay as they were
-gathered_kept : (memory froms starts : List ℕ) (t from start k : ℕ) → k ≤ t → gathered memory (set froms t from) (set starts (t + 1) start) k ≡ gathered memory froms starts k
-gathered_kept memory froms starts t from start zero h = refl
-gathered_kept memory froms starts t from start (suc k) h =
-    let a : suc k ≢ t + 1 = λ e. omega arith in
-    let b : k ≢ t + 1 = λ e. omega arith in
-    let d : k ≢ t = λ e. omega arith in
-    ap (λ l. l ++ take (get_or (set starts (t + 1) start) (suc k) 0 - get_or (set starts (t + 1) start) k 0) (drop (get_or (set froms t from) k 0) memory)) (gathered_kept memory froms starts t from start k (omega arith))
-    ∙ (ap (λ n. gathered memory froms starts k ++ take (n - get_or (set starts (t + 1) start) k 0) (drop (get_or (set froms t from) k 0) memory)) (get_or-set_other starts (t + 1) (suc k) start 0 a)
-    ∙ (ap (λ n. gathered memory froms starts k ++ take (get_or starts (suc k) 0 - n) (drop (get_or (set froms t from) k 0) memory)) (get_or-set_other starts (t + 1) k start 0 b)
-    ∙ ap (λ n. gathered memory froms starts k ++ take (get_or starts (suc k) 0 - get_or starts k 0) (drop n memory)) (get_or-set_other froms t k from 0 d)))
-
-gathered_more : (memory froms starts : List ℕ) (t from used : ℕ) → t < length froms → t + 1 < length starts → gathered memory (set froms t from) (set starts (t + 1) (get_or starts t 0 + used)) (t + 1) ≡ gathered memory froms starts t ++ take used (drop from memory)
-gathered_more memory froms starts t from used hf hs =
-    let start = get_or starts t 0 + used in
-    let b : t ≢ t + 1 = λ e. omega arith in
-    let size : get_or (set starts (t + 1) start) (suc t) 0 - get_or (set starts (t + 1) start) t 0 ≡ used = omega (arith, ap (λ n. get_or (set starts (t + 1) start) n 0) (add-one t), get_or-set_same starts (t + 1) start 0 hs, get_or-set_other starts (t + 1) t start 0 b) in
-    ap (gathered memory (set froms t from) (set starts (t + 1) start)) (add-one t)
-    ∙ (ap (λ l. l ++ take (get_or (set starts (t + 1) start) (suc t) 0 - get_or (set starts (t + 1) start) t 0) (drop (get_or (set froms t from) t 0) memory)) (gathered_kept memory froms starts t from start t (omega arith))
-    ∙ (ap (λ n. gathered memory froms starts t ++ take n (drop (get_or (set froms t from) t 0) memory)) size
-    ∙ ap (λ n. gathered memory froms starts t ++ take used (drop n memory)) (get_or-set_same froms t from 0 hf)))
-
--- the places of the pieces, with one more
-places_more : (memory froms starts : List ℕ) (t from used : ℕ) → t < length froms → t + 1 < length starts → length (take used (drop from memory)) ≡ used → ((k : ℕ) → k ≤ t → length (gathered memory froms starts k) ≡ get_or starts k 0) → (k : ℕ) → k ≤ t + 1 → length (gathered memory (set froms t from) (set starts (t + 1) (get_or starts t 0 + used)) k) ≡ get_or (set starts (t + 1) (get_or starts t 0 + used)) k 0
-places_more memory froms starts t from used hf hs size before k h =
-    let start = get_or starts t 0 + used in
-    let piece = take used (drop from memory) in
-    ⊎_elim (λ e. ap (λ n. length (gathered memory (set froms t from) (set starts (t + 1) start) n)) e ∙ (ap length (gathered_more memory froms starts t from used hf hs) ∙ (length-append (gathered memory froms starts t) piece ∙ (ap (λ n. length (gathered memory froms starts t) + n) size ∙ (ap (λ n. n + used) (before t (omega arith)) ∙ sym (ap (λ n. get_or (set starts (t + 1) start) n 0) e ∙ get_or-set_same starts (t + 1) start 0 hs)))))) (λ e. ap length (gathered_kept memory froms starts t from start k (omega arith)) ∙ (before k (omega arith) ∙ sym (get_or-set_other starts (t + 1) k start 0 e))) (cases_eq k (t + 1))
-
 -- the chain, with one more piece
-module _ (memory : List ℕ) (first : ℕ) (froms starts : List ℕ) (t index number : ℕ) (is : index ≡ suc number) (lf : length froms ≡ 256) (ls : length starts ≡ 257) (walked : Walked memory first froms starts t (chain_from memory (records_of memory - t) (get_or starts t 0) index)) where
-  goes : chained memory first ≡ bytes (gathered memory froms starts t) ++ chain_from memory (records_of memory - t) (get_or starts t 0) (suc number)
-  goes = walked.whole ∙ ap (λ n. bytes (gathered memory froms starts t) ++ chain_from memory (records_of memory - t) (get_or starts t 0) n) is
+module _ (memory : List ℕ) (first size : ℕ) (ps : List Piece) (index number : ℕ) (is : index ≡ suc number) (walked_to : Walked memory first ps size (chain_from memory (records_of memory - length ps) size index)) where
+  walked : Walked memory first ps size (chain_from memory (records_of memory - length ps) size (suc number))
+  walked = rw (← is) walked_to
 
-  pub walked_broken : (damage : Damage) (fault : Fault) (size : ℕ) → Some damage ≡ damage_at memory (records_of memory - t) number → size ≡ get_or starts t 0 → fault ≡ fault_of damage size → Walked memory first froms starts t (Bad fault ∷ [])
-  walked_broken damage fault size e es ef =
+  pub walked_broken : (damage : Damage) → Some damage ≡ damage_at memory (records_of memory - length ps) number → Walked memory first ps size (Bad (fault_of damage size) ∷ [])
+  walked_broken damage e =
       record {
         within = walked.within;
         low = walked.low;
-        places = walked.places;
-        whole = goes ∙ ap (λ l. bytes (gathered memory froms starts t) ++ l) (chain_broken memory (records_of memory - t) (get_or starts t 0) number damage e ∙ sym (ap (λ f. Bad f ∷ []) (ef ∙ ap (fault_of damage) es)));
+        placed = walked.placed;
+        whole = walked.whole ∙ ap (λ l. bytes (gathered memory ps) ++ l) (chain_broken memory (records_of memory - length ps) size number damage e);
       }
 
-  pub walked_one_more : None ≡ damage_at memory (records_of memory - t) number → Walked memory first (set froms t (number * 64 + 4)) (set starts (t + 1) (get_or starts t 0 + used_of (record_at memory number))) (t + 1) (chain_from memory (records_of memory - (t + 1)) (get_or (set starts (t + 1) (get_or starts t 0 + used_of (record_at memory number))) (t + 1) 0) (next_of (record_at memory number)))
-  walked_one_more fine =
+  pub walked_more : (q : Piece) → None ≡ damage_at memory (records_of memory - length ps) number → q.start ≡ size → q.end ≡ size + used_of (record_at memory number) → q.from ≡ number * 64 + 4 → Walked memory first (ps ++ q ∷ []) q.end (chain_from memory (records_of memory - length (ps ++ q ∷ [])) q.end (next_of (record_at memory number)))
+  walked_more q fine is_start is_end is_from =
       let r = record_at memory number in
-      let used = used_of r in
-      let from = number * 64 + 4 in
-      let start = get_or starts t 0 + used in
-      let ok = taken_is memory (records_of memory - t) number (sym fine) in
-      let hf : t < length froms = omega (arith, walked.within) in
-      let hs : t + 1 < length starts = omega (arith, walked.within) in
-      let piece : text_of r ≡ take used (drop from memory) = text_piece memory number ok.2 in
-      let size : length (text_of r) ≡ used = text_size memory number ok.1 ok.2 in
-      let last : get_or (set starts (t + 1) start) (t + 1) 0 ≡ start = get_or-set_same starts (t + 1) start 0 hs in
-      let left : records_of memory - t - 1 ≡ records_of memory - (t + 1) = omega arith in
-      let next : get_or starts t 0 + length (text_of r) ≡ get_or (set starts (t + 1) start) (t + 1) 0 = ap (λ n. get_or starts t 0 + n) size ∙ sym last in
-      let text : gathered memory (set froms t from) (set starts (t + 1) start) (t + 1) ≡ gathered memory froms starts t ++ text_of r = gathered_more memory froms starts t from used hf hs ∙ ap (λ l. gathered memory froms starts t ++ l) (sym piece) in
+      let ok = taken_is memory (records_of memory - length ps) number (sym fine) in
+      let more : length (ps ++ q ∷ []) ≡ length ps + 1 = length-append ps (q ∷ []) in
+      let used : q.end - q.start ≡ used_of r = omega arith in
+      let text : text_of r ≡ piece_text memory q = text_piece memory number ok.2 ∙ (ap (λ n. take n (drop (number * 64 + 4) memory)) (sym used) ∙ ap (λ n. take (q.end - q.start) (drop n memory)) (sym is_from)) in
+      let size_of : size + length (text_of r) ≡ q.end = omega (arith, text_size memory number ok.1 ok.2) in
+      let left : records_of memory - length ps - 1 ≡ records_of memory - length (ps ++ q ∷ []) = omega arith in
       record {
-        within = omega arith;
-        low = omega (arith, walked.low, last, ok.2);
-        places = places_more memory froms starts t from used hf hs (sym (ap length piece) ∙ size) walked.places;
-        whole = goes ∙ (ap (λ l. bytes (gathered memory froms starts t) ++ l) (chain_more memory (records_of memory - t) (get_or starts t 0) number fine ∙ (ap (λ n. bytes (text_of r) ++ chain_from memory n (get_or starts t 0 + length (text_of r)) (next_of r)) left ∙ ap (λ n. bytes (text_of r) ++ chain_from memory (records_of memory - (t + 1)) n (next_of r)) next)) ∙ (sym (append_assoc (bytes (gathered memory froms starts t)) (bytes (text_of r)) (chain_from memory (records_of memory - (t + 1)) (get_or (set starts (t + 1) start) (t + 1) 0) (next_of r))) ∙ ap (λ l. l ++ chain_from memory (records_of memory - (t + 1)) (get_or (set starts (t + 1) start) (t + 1) 0) (next_of r)) (sym (ap bytes text ∙ map-append Byte (gathered memory froms starts t) (text_of r)))));
+        within = omega (arith, ok.0);
+        low = omega (arith, walked.low, ok.2);
+        placed = placed_more memory 0 size ps q walked.placed is_start (omega arith) (omega (arith, ok.1, ok.2));
+        whole = walked.whole
+            ∙ (ap (λ l. bytes (gathered memory ps) ++ l) (chain_more memory (records_of memory - length ps) size number fine ∙ (ap (λ n. bytes (text_of r) ++ chain_from memory n (size + length (text_of r)) (next_of r)) left ∙ ap (λ n. bytes (text_of r) ++ chain_from memory (records_of memory - length (ps ++ q ∷ [])) n (next_of r)) size_of))
+            ∙ (sym (append_assoc (bytes (gathered memory ps)) (bytes (text_of r)) (chain_from memory (records_of memory - length (ps ++ q ∷ [])) q.end (next_of r)))
+            ∙ ap (λ l. l ++ chain_from memory (records_of memory - length (ps ++ q ∷ [])) q.end (next_of r)) (sym (ap bytes (gathered_more memory ps q ∙ ap (λ l. gathered memory ps ++ l) (sym text)) ∙ map-append Byte (gathered memory ps) (text_of r)))));
       }
-
-  -- the same of what the walk then holds
-  pub walked_more : (r froms' starts' : List ℕ) (t' next : ℕ) → None ≡ damage_at memory (records_of memory - t) number → r ≡ record_at memory number → froms' ≡ set froms t (number * 64 + 4) → starts' ≡ set starts (t + 1) (get_or starts t 0 + get_or r 2 0) → t' ≡ t + 1 → next ≡ next_of r → Walked memory first froms' starts' t' (chain_from memory (records_of memory - t') (get_or starts' t' 0) next)
-  walked_more r froms' starts' t' next fine er ef es et en =
-      let es' : starts' ≡ set starts (t + 1) (get_or starts t 0 + used_of (record_at memory number)) = es ∙ ap (λ l. set starts (t + 1) (get_or starts t 0 + used_of l)) er in
-      let en' : next ≡ next_of (record_at memory number) = en ∙ ap next_of er in
-      rw (ef, es', et, en') (walked_one_more fine)

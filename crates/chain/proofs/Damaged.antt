@@ -12,7 +12,7 @@ use Rattle.chain.specs.Damages.{fault_of}
 use Rattle.chain.specs.Records.{next_of, text_of}
 use Rattle.chain.specs.Chains.{records_of, record_at, damage_at, broken, unless, chain_from, chained, Chain}
 use Rattle.chain.specs.Short.{chained_within}
-use Rattle.chain.proofs.Pieces.{nth_text, nth_end}
+use Rattle.chain.proofs.Gathering.{nth_text, nth_end}
 
 no_fault : (found : Option ℕ) (f : Fault) → ◌≡◌ {A = Result (Option ℕ) Fault} (Ok found) (Err f) → ⊥
 no_fault found f e = let z : ◌≡◌ {A = ℕ} 0 1 = cc in omega arith

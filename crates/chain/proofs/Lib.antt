@@ -1,6 +1,5 @@
 pub mod Chaining
-pub mod Checks
 pub mod Damaged
-pub mod Faults
-pub mod Pieces
+pub mod Filing
+pub mod Gathering
 pub mod Samples

@@ -1,36 +1,26 @@
 // What can be wrong with a chain, and the fault that tells it.
-ghost use Rattle.std.specs.Prelude.{◌≡◌, ℕ};
-ghost use Rattle.chain.specs.Damages.{number_of, fault_of};
+ghost use Rattle.std.specs.Prelude.{◌≡◌};
+ghost use Rattle.chain.specs.Damages.{fault_of};
 
 use texts::cell::Fault;
 
+// Each with its number in a fault.
 #[derive(Clone, Copy)]
 pub(crate) enum Damage {
     // the index is past the last record
-    NoRecord,
+    NoRecord = 1,
     // as many records were taken as the memory has
-    TooMany,
+    TooMany = 2,
     // the used length is over 60
-    TooLong,
+    TooLong = 3,
     // the check disagrees
-    WrongCheck,
-}
-
-fn number_of(damage: Damage) -> u8
-    ensures { result ≡ number_of damage }
-{
-    match damage {
-        Damage::NoRecord => 1,
-        Damage::TooMany => 2,
-        Damage::TooLong => 3,
-        Damage::WrongCheck => 4,
-    }
+    WrongCheck = 4,
 }
 
 // Its fault, where `own` cells stand before it.
 pub(crate) fn fault_of(damage: Damage, own: usize) -> Fault
     ensures { result ≡ fault_of damage own }
 {
-    let number = number_of(damage);
+    let number = damage as u8;
     Fault { number, own }
 }

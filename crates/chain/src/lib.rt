@@ -2,6 +2,7 @@
 #![tactic(auto)]
 
 mod damage;
+mod pieces;
 mod record;
 pub mod store;
 mod walk;

@@ -1,48 +1,42 @@
 // One record of 64 bytes: the next index, the used length, the check, and the text.
-ghost use Rattle.std.specs.Prelude.{◌≡◌, ℕ, ◌%◌, ◌<◌, ◌≤◌, length};
-ghost use Rattle.chain.specs.Records.{next_of, used_of, head_of, check_of, record_damage};
+ghost use Rattle.std.specs.Prelude.{◌≡◌, ◌+◌, ◌%◌, ◌≤◌, sum as total};
+ghost use Rattle.std.specs.Result.{result_err};
+ghost use Rattle.chain.specs.Records.{next_of, used_of, check_of, record_damage};
 
 use crate::damage::Damage;
 
 // The next index, high byte first.
-pub(crate) fn next_of(bytes: &[u8]) -> u16
-    requires { length bytes.now ≡ 64 }
+pub(crate) fn next_of(bytes: &[u8; 64]) -> u16
     ensures { result ≡ next_of bytes.now }
 {
-    u16::from(bytes[0]) * 256 + u16::from(bytes[1])
+    u16::from_be_bytes([bytes[0], bytes[1]])
 }
 
-// The sum of the bytes before the check.
-fn head_sum(bytes: &[u8]) -> u8
-    requires { length bytes.now ≡ 64 }
-    ensures { result ≡ head_of bytes.now % 256 }
+// A sum modulo 256, from one so far.
+fn add_all(sum: u8, bytes: &[u8]) -> u8
+    ensures { result ≡ (sum + total bytes.now) % 256 }
 {
-    bytes[0].wrapping_add(bytes[1]).wrapping_add(bytes[2])
+    bytes.iter().fold(sum, |sum, byte| sum.wrapping_add(*byte))
 }
 
 // The check that the record ought to have.
-fn check_of(bytes: &[u8]) -> u8
-    requires { (length bytes.now ≡ 64) × (used_of bytes.now ≤ 60) }
+fn check_of(bytes: &[u8; 64]) -> u8
+    requires { used_of bytes.now ≤ 60 }
     ensures { result ≡ check_of bytes.now }
 {
-    let mut sum = head_sum(bytes);
-    let end = 4 + usize::from(bytes[2]);
-    for byte in &bytes[4..end] {
-        sum = sum.wrapping_add(*byte);
-    }
-    sum
+    let text = &bytes[4..4 + usize::from(bytes[2])];
+    add_all(add_all(0, &bytes[..3]), text)
 }
 
-// What is wrong with a record, if anything.
-pub(crate) fn record_damage(bytes: &[u8]) -> Option<Damage>
-    requires { length bytes.now ≡ 64 }
-    ensures { result ≡ record_damage bytes.now }
+// That nothing is wrong with a record.
+pub(crate) fn sound(bytes: &[u8; 64]) -> Result<(), Damage>
+    ensures { result_err result ≡ record_damage bytes.now }
 {
     if bytes[2] > 60 {
-        Some(Damage::TooLong)
+        Err(Damage::TooLong)
     } else if bytes[3] == check_of(bytes) {
-        None
+        Ok(())
     } else {
-        Some(Damage::WrongCheck)
+        Err(Damage::WrongCheck)
     }
 }

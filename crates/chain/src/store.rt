@@ -1,11 +1,13 @@
 // The chain store: a memory's chain as a text.
-ghost use Rattle.std.specs.Prelude.{◌≡◌, ℕ, ◌≤◌, List, ◌++◌, length, slice_index};
+ghost use Rattle.std.specs.Prelude.{◌≡◌, ℕ, ◌≤◌, List, ◌++◌, length, slice_get};
+ghost use Rattle.std.specs.Option.{MatchOption};
 ghost use Rattle.texts.specs.declared.cell.Cell.{Cell};
 ghost use Rattle.texts.specs.Cells.{answer, bytes};
-ghost use Rattle.chain.specs.Chains.{records_of, chained, Chain};
+ghost use Rattle.chain.specs.Chains.{chained, Chain};
 ghost use Rattle.chain.specs.Short.{chained_short};
-ghost use Rattle.chain.specs.Walks.{gathered, ending};
+ghost use Rattle.chain.specs.Walks.{list_of, Placed, Placed-prop, Holds, gathered, ending};
 
+use crate::pieces::Piece;
 use crate::walk::{Walk, walk_along};
 use texts::cell::Fault;
 use texts::text::Text;
@@ -15,9 +17,9 @@ pub struct ChainStore<'a> {
     memory: &'a [u8],
     first: u16,
     walk: Walk,
-    ghost within: { walk.taken ≤ records_of memory.now },
-    ghost places: { (k : ℕ) → k ≤ walk.taken → length (gathered memory.now walk.froms walk.starts k) ≡ slice_index walk.starts k },
-    ghost whole: { ∥ chained memory.now first ≡ bytes (gathered memory.now walk.froms walk.starts walk.taken) ++ ending walk.damage ∥₁ },
+    ghost within: { walk.size ≤ 15360 },
+    ghost placed: { Placed memory.now 0 walk.size (list_of walk.pieces) } by { Placed-prop memory.now 0 walk.size (list_of walk.pieces) },
+    ghost whole: { ∥ chained memory.now first ≡ bytes (gathered memory.now (list_of walk.pieces)) ++ ending walk.damage ∥₁ },
 }
 
 impl Text for ChainStore<'_> {
@@ -26,23 +28,14 @@ impl Text for ChainStore<'_> {
     ghost short = { λ s. chained_short s.memory.now s.first };
 
     fn len(&self) -> usize {
-        match self.walk.damage() {
-            Some(_) => self.walk.size() + 1,
-            None => self.walk.size(),
-        }
+        self.walk.size + usize::from(self.walk.damage.is_some())
     }
 
     fn cell(&self, place: usize) -> Result<Option<u8>, Fault> {
-        let size = self.walk.size();
-        if place < size {
-            return Ok(Some(self.walk.byte_at(self.memory, place)));
-        }
-        if place > size {
-            return Ok(None);
-        }
-        match self.walk.damage() {
-            Some(fault) => Err(fault),
-            None => Ok(None),
+        if place == self.walk.size {
+            self.walk.damage.map_or(Ok(None), Err)
+        } else {
+            Ok(self.byte_at(place))
         }
     }
 }
@@ -60,5 +53,22 @@ impl<'a> ChainStore<'a> {
             first,
             walk,
         }
+    }
+
+    // The piece that holds a place, if one does, by halving.
+    fn piece_at(&self, place: usize) -> Option<Piece>
+        ensures { MatchOption result (self.now.walk.size ≤ place) (λ piece. Holds self.now.memory.now (gathered self.now.memory.now (list_of self.now.walk.pieces)) place piece) }
+    {
+        let pieces = self.walk.pieces.as_slice();
+        let at = pieces.partition_point(|piece| usize::from(piece.end) <= place);
+        pieces.get(at).copied()
+    }
+
+    fn byte_at(&self, place: usize) -> Option<u8>
+        ensures { result ≡ slice_get (gathered self.now.memory.now (list_of self.now.walk.pieces)) place }
+    {
+        let piece = self.piece_at(place)?;
+        let offset = place - usize::from(piece.start);
+        Some(self.memory[usize::from(piece.from) + offset])
     }
 }

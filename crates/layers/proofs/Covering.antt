@@ -1,12 +1,12 @@
 -- A cover, cell by cell, and what holds of it as a whole.
-use Rattle.std.proofs.Common.{◌≡◌, ℕ, zero, suc, ◌+◌, ◌<◌, Bool, true, false, cond, ◌&&◌, ◌||◌, eqb, ltb, List, [], ◌∷◌, length, Some, None, Ok, Err, Option, Result, sym, refl, ap, ◌∙◌, subst, ⊎_elim, add-zero, zero-add, arith}
+use Rattle.std.proofs.Common.{◌≡◌, ℕ, zero, suc, ◌+◌, ◌<◌, Bool, true, false, cond, ◌&&◌, ◌||◌, eqb, ltb, List, [], ◌∷◌, length, get_or, Some, Ok, sym, refl, ap, ◌∙◌, subst, ⊎_elim, add-zero, zero-add, arith}
 use Rattle.std.proofs.lemmas.Bool.{cases_order, eq-eqb, ne_eqb, lt-ltb, le-ltb}
 use Rattle.std.proofs.lemmas.Bool.Decides.{nat_tests}
-use Rattle.texts.specs.declared.cell.Fault.{Fault}
 use Rattle.texts.specs.declared.cell.Cell.{Cell}
 use Rattle.texts.specs.declared.cell.Cell.TheVariants.{Byte, Bad}
 use Rattle.texts.specs.Cells.{answer}
-use Rattle.layers.specs.Covers.{hidden, shown, goes_on, shown_cell, goes_on_cell, covered_from, covered, comment_at, shown_by, shown_answer, goes_on_answer, Plain, Covering, shown_by_length}
+use Rattle.texts.specs.Codes.{codes}
+use Rattle.layers.specs.Covers.{hidden, shown, goes_on, shown_cell, goes_on_cell, covered_from, covered, comment_at, shown_by, shown_answer, Plain, Covering, shown_by_length}
 
 answer_shown : (inside : ℕ → Bool) (k : ℕ) (cs : List Cell) (p : ℕ) → answer (shown_by inside k cs) p ≡ shown_answer (inside (k + p)) (answer cs p)
 answer_shown inside k [] zero = refl
@@ -17,28 +17,20 @@ answer_shown inside k (c ∷ cs) (suc p) =
     answer_shown inside (suc k) cs p ∙ ap (λ n. shown_answer (inside n) (answer cs p)) (omega arith)
 
 -- the answer to a question through the cover
-module _ (inside : ℕ → Bool) (cs : List Cell) (p : ℕ) where
-  through : shown_answer (inside p) (answer cs p) ≡ answer (shown_by inside 0 cs) p
-  through = sym (answer_shown inside 0 cs p ∙ ap (λ n. shown_answer (inside n) (answer cs p)) (zero-add p))
+pub answer_through : (inside : ℕ → Bool) (cs : List Cell) (p : ℕ) → answer (shown_by inside 0 cs) p ≡ shown_answer (inside p) (answer cs p)
+answer_through inside cs p = answer_shown inside 0 cs p ∙ ap (λ n. shown_answer (inside n) (answer cs p)) (zero-add p)
 
-  pub shown_fault : {f e : Fault} {r : Result (Option ℕ) Fault} → Err f ≡ answer cs p → r ≡ Err e → e ≡ f → r ≡ answer (shown_by inside 0 cs) p
-  shown_fault h q w = q ∙ (ap Err w ∙ (ap (shown_answer (inside p)) h ∙ through))
-
-  pub shown_some : {o : Option ℕ} {t : Bool} {b r : ℕ} → Ok o ≡ answer cs p → o ≡ Some b → t ≡ inside p → r ≡ shown t b → Ok (Some r) ≡ answer (shown_by inside 0 cs) p
-  shown_some {o} {t} {b} {r} h e q w =
-      ap (λ x. Ok (Some x)) w
-      ∙ (ap (λ x. Ok (Some (shown x b))) q ∙ (ap (λ x. shown_answer (inside p) (Ok x)) (sym e) ∙ (ap (shown_answer (inside p)) h ∙ through)))
-
-  pub shown_none : {o : Option ℕ} → Ok o ≡ answer cs p → o ≡ None → Ok None ≡ answer (shown_by inside 0 cs) p
-  shown_none h e = ap (λ x. shown_answer (inside p) (Ok x)) (sym e) ∙ (ap (shown_answer (inside p)) h ∙ through)
+or_false : (t : Bool) → (t || false) ≡ t
+or_false true = refl
+or_false false = refl
 
 -- whether a comment goes on, a place further
-comment_more : (inside : Bool) (cs : List Cell) (p : ℕ) → p < length cs → goes_on_answer (comment_at inside cs p) (answer cs p) ≡ comment_at inside cs (suc p)
+comment_more : (inside : Bool) (cs : List Cell) (p : ℕ) → p < length cs → goes_on (comment_at inside cs p) (get_or (codes cs) p 256) ≡ comment_at inside cs (suc p)
 comment_more inside [] p h = absurd (omega arith)
 comment_more inside (Byte b ∷ []) zero h = refl
 comment_more inside (Byte b ∷ c ∷ cs) zero h = refl
-comment_more inside (Bad f ∷ []) zero h = refl
-comment_more inside (Bad f ∷ c ∷ cs) zero h = refl
+comment_more inside (Bad f ∷ []) zero h = or_false inside
+comment_more inside (Bad f ∷ c ∷ cs) zero h = or_false inside
 comment_more inside (c ∷ cs) (suc p) h = comment_more (goes_on_cell inside c) cs p (omega arith)
 
 -- marks on each place below one that lies in a comment
@@ -48,10 +40,6 @@ MarkedBelow marks cs p = (q : ℕ) → marks q ≡ (ltb q p && comment_at false 
 pub marks_none : (marks : ℕ → Bool) (cs : List Cell) → ((q : ℕ) → marks q ≡ false) → MarkedBelow marks cs 0
 marks_none marks cs h q = h q ∙ sym (ap (λ t. t && comment_at false cs q) (le-ltb q 0 (omega arith)))
 
-or_false : (t : Bool) → (t || false) ≡ t
-or_false true = refl
-or_false false = refl
-
 pub marks_more : (marks after : ℕ → Bool) (cs : List Cell) (p : ℕ) (inside : Bool) → MarkedBelow marks cs p → inside ≡ comment_at false cs p → ((q : ℕ) → after q ≡ ((eqb q p && inside) || marks q)) → MarkedBelow after cs (p + 1)
 marks_more marks after cs p inside before is step q =
     let at = comment_at false cs q in
@@ -59,9 +47,9 @@ marks_more marks after cs p inside before is step q =
     ∙ (ap (λ t. (eqb q p && inside) || t) (before q)
     ∙ ⊎_elim (λ e. ap (λ t. (t && inside) || (ltb q p && at)) (eq-eqb q p e) ∙ (ap (λ t. inside || (t && at)) (le-ltb q p (omega arith)) ∙ (or_false inside ∙ (is ∙ (ap (comment_at false cs) (sym e) ∙ sym (ap (λ t. t && at) (lt-ltb q (p + 1) (omega arith)))))))) (λ o. ap (λ t. (t && inside) || (ltb q p && at)) (ne_eqb q p (⊎_elim (λ l e. omega arith) (λ l e. omega arith) o)) ∙ ap (λ t. t && at) (⊎_elim (λ l. lt-ltb q p l ∙ sym (lt-ltb q (p + 1) (omega arith))) (λ l. le-ltb q p (omega arith) ∙ sym (le-ltb q (p + 1) (omega arith))) o)) (cases_order q p))
 
-pub comment_next : (cs : List Cell) (p n : ℕ) (inside after : Bool) → n ≡ length cs → p < n → inside ≡ comment_at false cs p → after ≡ goes_on_answer inside (answer cs p) → after ≡ comment_at false cs (p + 1)
+pub comment_next : (cs : List Cell) (p n : ℕ) (inside after : Bool) → n ≡ length cs → p < n → inside ≡ comment_at false cs p → after ≡ goes_on inside (get_or (codes cs) p 256) → after ≡ comment_at false cs (p + 1)
 comment_next cs p n inside after len h is e =
-    e ∙ (ap (λ t. goes_on_answer t (answer cs p)) is ∙ (comment_more false cs p (omega arith) ∙ ap (comment_at false cs) (omega arith)))
+    e ∙ (ap (λ t. goes_on t (get_or (codes cs) p 256)) is ∙ (comment_more false cs p (omega arith) ∙ ap (comment_at false cs) (omega arith)))
 
 -- marks on the places in comments show the cells as the cover does
 shown_covered : (inside : Bool) (marks : ℕ → Bool) (k : ℕ) (cs : List Cell) → ((q : ℕ) → q < length cs → marks (k + q) ≡ comment_at inside cs q) → shown_by marks k cs ≡ covered_from inside cs

@@ -1,7 +1,7 @@
 -- A set of places in words of bits: none, and one more.
-use Rattle.std.proofs.Common.{◌≡◌, ℕ, zero, suc, ◌+◌, ◌-◌, ◌*◌, ◌/◌, ◌%◌, ◌^◌, ◌<◌, ◌≤◌, Bool, true, false, ◌&&◌, ◌||◌, eqb, ◌≢◌, List, length, get_or, set, replicate, sym, refl, ap, ◌∙◌, ⊎_elim, pow-suc, arith, lit<, pow_pos, pow-add}
+use Rattle.std.proofs.Common.{◌≡◌, ℕ, zero, suc, ◌+◌, ◌-◌, ◌*◌, ◌/◌, ◌%◌, ◌^◌, ◌<◌, Bool, true, false, ◌&&◌, ◌||◌, eqb, ◌≢◌, List, length, get_or, set, replicate, sym, refl, ap, ◌∙◌, ⊎_elim, pow-suc, arith, lit<, pow_pos, pow-add}
 use native.Mathlib.Nat.{div-eq_of_lt, div_self, mul-mod_left}
-use lib.Bits.{bit_and, bit_or, or_shr, or_mod, or_zero_r, and_mask}
+use lib.Bits.{bit_or, or_shr, or_mod, or_zero_r}
 use lib.Pow.{pow-lt, shl-shr}
 use Rattle.std.proofs.lemmas.Nat.{mod_below, one_shl}
 use Rattle.std.proofs.lemmas.List.{get_or-set_same, get_or-set_other, get_or-replicate, get_or_past, length-replicate}
@@ -70,11 +70,3 @@ marked_none words q e = ap (λ w. eqb (bit w (q % 64)) 1) e ∙ ap (λ n. eqb n 
 
 pub none_marked : (q : ℕ) → marked (replicate 256 0) q ≡ false
 none_marked q = marked_none (replicate 256 0) q (zeros 256 (q / 64))
-
--- a place past the last word
-pub past_marked : (words : List ℕ) (q : ℕ) → length words ≡ 256 → 16384 ≤ q → false ≡ marked words q
-past_marked words q len h = sym (marked_none words q (get_or_past words (q / 64) 0 (omega arith)))
-
--- the test of a bit
-pub tested : (words : List ℕ) (q : ℕ) → eqb (bit_and (get_or words (q / 64) 0 / 2 ^ (q % 64)) 1) 1 ≡ marked words q
-tested words q = ap (λ n. eqb n 1) (and_mask (get_or words (q / 64) 0 / 2 ^ (q % 64)) 1)

@@ -53,15 +53,6 @@ shown_answer inside (Ok None) = Ok None
 shown_answer inside (Ok (Some b)) = Ok (Some (shown inside b))
 shown_answer inside (Err f) = Err f
 
--- whether a comment goes on behind what a question for a cell found
-abbrev pub goes_on_found : Bool → Option ℕ → Bool
-goes_on_found inside (Some b) = goes_on inside b
-goes_on_found inside None = inside
-
-abbrev pub goes_on_answer : Bool → Result (Option ℕ) Fault → Bool
-goes_on_answer inside (Ok found) = goes_on_found inside found
-goes_on_answer inside (Err f) = inside
-
 -- no byte of the cells is one that is never shown
 abbrev pub Plain : List Cell → Type 0
 Plain [] = Unit {0}

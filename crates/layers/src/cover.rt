@@ -1,12 +1,14 @@
 // The cover: a text whose comments and ends of lines are shown as spaces.
-ghost use Rattle.std.specs.Prelude.{◌≡◌, ℕ, ◌<◌, ◌≤◌, Bool, false, List, length};
+ghost use Rattle.std.specs.Prelude.{◌≡◌, ℕ, ◌<◌, ◌≤◌, Bool, false, List, length, slice_index_or};
 ghost use Rattle.texts.specs.declared.cell.Cell.{Cell};
 ghost use Rattle.texts.specs.Cells.{answer};
-ghost use Rattle.layers.specs.Covers.{shown, goes_on, goes_on_found, goes_on_answer, comment_at, shown_by, shown_by_short, Covering};
+ghost use Rattle.texts.specs.Codes.{codes};
+ghost use Rattle.layers.specs.Covers.{shown, goes_on, comment_at, shown_by, shown_by_short, Covering};
 ghost use Rattle.layers.specs.Marks.{marked};
 
 use crate::marks::Marks;
 use texts::cell::Fault;
+use texts::code::byte_at;
 use texts::text::Text;
 
 // A byte as it is shown, in a comment or not.
@@ -27,26 +29,14 @@ fn goes_on(inside: bool, byte: u8) -> bool
     byte != b'\n' && (inside || byte == b'#')
 }
 
-fn goes_on_behind(inside: bool, found: Option<u8>) -> bool
-    ensures { result ≡ goes_on_found inside found }
-{
-    match found {
-        Some(byte) => goes_on(inside, byte),
-        None => inside,
-    }
-}
-
 // The same behind the cell at a place: a bad one neither begins nor ends a comment.
 fn comment_behind<T: Text>(text: &T, place: usize, inside: bool) -> bool
-    ensures { result ≡ goes_on_answer inside (answer (T.Text.cells text.now) place) }
+    ensures { result ≡ goes_on inside (slice_index_or (codes (T.Text.cells text.now)) place 256) }
 {
-    match text.cell(place) {
-        Ok(found) => goes_on_behind(inside, found),
-        Err(_) => inside,
-    }
+    byte_at(text, place).map_or(inside, |byte| goes_on(inside, byte))
 }
 
-// The places in comments, behind the `#` that begins each.
+// The places in comments, behind the `#` that begins each. A text is asked by place, and has no slice to go through.
 fn comments_of<T: Text>(text: &T) -> Marks
     ensures { (q : ℕ) → q < length (T.Text.cells text.now) → marked result.words q ≡ comment_at false (T.Text.cells text.now) q }
 {
@@ -74,12 +64,10 @@ impl<T: Text> Text for Cover<T> {
         self.inner.len()
     }
 
+    #[tactic(auto, using(crate::proofs::Covering::answer_through))]
     fn cell(&self, place: usize) -> Result<Option<u8>, Fault> {
-        let found = self.inner.cell(place)?;
-        match found {
-            Some(byte) => Ok(Some(shown_byte(self.comments.holds(place), byte))),
-            None => Ok(None),
-        }
+        let inside = self.comments.holds(place);
+        Ok(self.inner.cell(place)?.map(|byte| shown_byte(inside, byte)))
     }
 }
 

@@ -1,35 +1,17 @@
 // The join: two texts with a comma between them.
 ghost use Rattle.std.specs.Prelude.{◌≡◌, ℕ, ◌+◌, ◌<◌, ◌≤◌, List, length};
 ghost use Rattle.texts.specs.declared.cell.Cell.{Cell};
-ghost use Rattle.texts.specs.Cells.{answer, overfull};
+ghost use Rattle.texts.specs.Cells.{answer};
 ghost use Rattle.layers.specs.Joins.{joined, joined_short, Joining};
 
 use texts::cell::Fault;
-use texts::text::Text;
+use texts::text::{LONGEST, Text, overfull_cell};
 
 // The other text where one is empty.
 #[derive(Drop)]
 pub struct Join<X, Y> {
     first: X,
     second: Y,
-}
-
-// The one cell of a join that does not fit.
-fn overfull_cell(place: usize) -> Result<Option<u8>, Fault>
-    ensures { result ≡ answer overfull place }
-{
-    if place == 0 {
-        Err(Fault { number: 5, own: 0 })
-    } else {
-        Ok(None)
-    }
-}
-
-// The answer of a text below, as it is: a fault keeps its own place.
-fn below<T: Text>(text: &T, place: usize) -> Result<Option<u8>, Fault>
-    ensures { result ≡ answer (T.Text.cells text.now) place }
-{
-    text.cell(place)
 }
 
 impl<X: Text, Y: Text> Text for Join<X, Y> {
@@ -44,7 +26,7 @@ impl<X: Text, Y: Text> Text for Join<X, Y> {
             n
         } else if n == 0 {
             m
-        } else if m + 1 + n <= 16384 {
+        } else if m + 1 + n <= LONGEST {
             m + 1 + n
         } else {
             1
@@ -55,20 +37,20 @@ impl<X: Text, Y: Text> Text for Join<X, Y> {
         let m = self.first.len();
         let n = self.second.len();
         if m == 0 {
-            return below(&self.second, place);
+            return self.second.cell(place);
         }
         if n == 0 {
-            return below(&self.first, place);
+            return self.first.cell(place);
         }
-        if m + 1 + n > 16384 {
+        if m + 1 + n > LONGEST {
             return overfull_cell(place);
         }
         if place < m {
-            below(&self.first, place)
+            self.first.cell(place)
         } else if place == m {
-            Ok(Some(44))
+            Ok(Some(b','))
         } else {
-            below(&self.second, place - m - 1)
+            self.second.cell(place - m - 1)
         }
     }
 }

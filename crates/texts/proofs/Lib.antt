@@ -2,5 +2,4 @@ pub mod Coding
 pub mod Cutting
 pub mod Spacing
 pub mod Spellings
-pub mod Storing
 pub mod Trimming

@@ -1,5 +1,6 @@
 -- White space characters, as UTF-8 spells them, at the ends of a list of codes.
-use Rattle.std.specs.Prelude.{ℕ, zero, suc, Bool, cond, ◌&&◌, ◌||◌, List, [], ◌∷◌, reverse, ◌==◌, nat_le, slice_index_or}
+use Rattle.std.specs.Prelude.{ℕ, zero, suc, ◌≤◌, Bool, true, false, cond, ◌&&◌, ◌||◌, List, [], ◌∷◌, reverse, Some, None, Option, ◌==◌, nat_le, slice_index_or}
+use Rattle.std.proofs.Common.{lit≤}
 
 -- a white space character of one cell: U+0009 to U+000D, U+0020
 abbrev pub single : ℕ → Bool
@@ -21,13 +22,34 @@ triple a b c =
     || ((a == 0xE2 && (b == 0x81 && c == 0x9F))
     || (a == 0xE3 && (b == 0x80 && c == 0x80))))
 
+-- how many cells a white space character takes, by whether one, two or three of them spell it; 0 where none do
+abbrev pub space_width : Bool → Bool → Bool → ℕ
+space_width one two three = cond one 1 (cond two 2 (cond three 3 0))
+
+pub width_narrow : (one two three : Bool) → space_width one two three ≤ 3
+width_narrow true two three = lit≤ tt
+width_narrow false true three = lit≤ tt
+width_narrow false false true = lit≤ tt
+width_narrow false false false = lit≤ tt
+
+-- a width, or none where it is 0
+abbrev pub wide : ℕ → Option ℕ
+wide zero = None
+wide (suc others) = Some (suc others)
+
 -- how many cells the white space character takes that begins with three codes; 0 where there is none
 abbrev pub space_from : ℕ → ℕ → ℕ → ℕ
-space_from a b c = cond (single a) 1 (cond (double a b) 2 (cond (triple a b c) 3 0))
+space_from a b c = space_width (single a) (double a b) (triple a b c)
 
 -- the same of the one that ends with three codes, the last code first
 abbrev pub space_back : ℕ → ℕ → ℕ → ℕ
-space_back c b a = cond (single c) 1 (cond (double b c) 2 (cond (triple a b c) 3 0))
+space_back c b a = space_width (single c) (double b c) (triple a b c)
+
+pub front_narrow : (a b c : ℕ) → space_from a b c ≤ 3
+front_narrow a b c = width_narrow (single a) (double a b) (triple a b c)
+
+pub back_narrow : (c b a : ℕ) → space_back c b a ≤ 3
+back_narrow c b a = width_narrow (single c) (double b c) (triple a b c)
 
 -- none where the character takes 0 cells, else what its other cells lead to
 abbrev pub on_space : ℕ → (ℕ → ℕ) → ℕ

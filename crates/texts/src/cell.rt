@@ -9,6 +9,8 @@ pub struct Fault {
     ghost numbered: { 1 ≤ number },
 }
 
+// No function answers with a cell: it is the word of the clauses for one that is there. As a Result<u8, Fault> it
+// would be no plainer, since the question for a cell answers with one that may also be none.
 #[derive(Clone, Copy, Debug, PartialEq)]
 pub enum Cell {
     Byte(u8),

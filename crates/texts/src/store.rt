@@ -4,7 +4,7 @@ ghost use Rattle.texts.specs.declared.cell.Cell.{Cell};
 ghost use Rattle.texts.specs.Cells.{answer, stored, stored_short};
 
 use crate::cell::Fault;
-use crate::text::Text;
+use crate::text::{LONGEST, Text, overfull_cell};
 
 #[derive(Clone, Copy)]
 pub struct ByteStore<'a> {
@@ -25,7 +25,7 @@ impl Text for ByteStore<'_> {
     ghost short = { λ s. stored_short s.bytes.now };
 
     fn len(&self) -> usize {
-        if self.bytes.len() <= 16384 {
+        if self.bytes.len() <= LONGEST {
             self.bytes.len()
         } else {
             1
@@ -33,16 +33,9 @@ impl Text for ByteStore<'_> {
     }
 
     fn cell(&self, place: usize) -> Result<Option<u8>, Fault> {
-        if self.bytes.len() > 16384 {
-            if place == 0 {
-                return Err(Fault { number: 5, own: 0 });
-            }
-            return Ok(None);
+        if self.bytes.len() > LONGEST {
+            return overfull_cell(place);
         }
-        if place < self.bytes.len() {
-            Ok(Some(self.bytes[place]))
-        } else {
-            Ok(None)
-        }
+        Ok(self.bytes.get(place).copied())
     }
 }

@@ -2,9 +2,12 @@
 // whoever adds a store or a layer owes just these clauses.
 ghost use Rattle.std.specs.Prelude.{◌≡◌, ℕ, ◌≤◌, List, length};
 ghost use Rattle.texts.specs.declared.cell.Cell.{Cell};
-ghost use Rattle.texts.specs.Cells.{answer};
+ghost use Rattle.texts.specs.Cells.{answer, overfull};
 
 use crate::cell::Fault;
+
+// The most cells that a text may have.
+pub const LONGEST: usize = 16384;
 
 pub trait Text {
     ghost cells: { Self → List Cell };
@@ -31,5 +34,16 @@ impl<T: Text> Text for &T {
 
     fn cell(&self, place: usize) -> Result<Option<u8>, Fault> {
         (**self).cell(place)
+    }
+}
+
+// What the one bad cell of a text that does not fit answers.
+pub fn overfull_cell(place: usize) -> Result<Option<u8>, Fault>
+    ensures { result ≡ answer overfull place }
+{
+    if place == 0 {
+        Err(Fault { number: 5, own: 0 })
+    } else {
+        Ok(None)
     }
 }
