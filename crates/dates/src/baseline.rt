@@ -1,31 +1,22 @@
 // The `baseline` form.
 ghost use Rattle.std.specs.Prelude.{◌≡◌};
-ghost use Rattle.texts.specs.Codes.{codes};
-ghost use Rattle.grammar.specs.Form.{reads};
 ghost use Rattle.grammar.specs.Forms.{newness, availability, available, baseline_kind, two_words, baselined};
-ghost use Rattle.grammar.specs.Gives.{Gives, GivesValue};
-ghost use Rattle.grammar.specs.Rule.{ends};
+ghost use Rattle.scanner.specs.Position.{Takes, Reads};
 
 use crate::since::parse_on_date;
 use grammar::query::{BaselineKind, QueryAtom};
-use scanner::scan::match_keyword;
-use scanner::token::skip_whitespace1;
+use scanner::cursor::Cursor;
 use scanner::trial::Trial;
-use scanner::year::parse_baseline_year;
 use texts::text::Text;
 
 // `newly` (true) or `widely` (false).
-fn parse_newness<T: Text>(text: &T, place: &mut usize) -> Option<bool>
-    ensures { GivesValue (reads newness (codes (T.Text.cells text.now)) place.old) result place.old place.new }
+fn parse_newness<T: Text>(cursor: &mut Cursor<T>) -> Option<bool>
+    ensures { Reads newness result cursor.old cursor.new }
 {
-    if match_keyword(text, place, b"newly") {
+    if cursor.match_keyword(b"newly") {
         return Some(true);
     }
-    if match_keyword(text, place, b"widely") {
-        Some(false)
-    } else {
-        None
-    }
+    cursor.match_keyword(b"widely").then_some(false)
 }
 
 // The newly kind drops its date.
@@ -44,65 +35,51 @@ fn kind_of(newly: bool, date: Option<(i64, u32, u32)>) -> BaselineKind
     }
 }
 
-fn parse_available<T: Text>(text: &T, place: &mut usize) -> Option<BaselineKind>
-    ensures { GivesValue (reads available (codes (T.Text.cells text.now)) place.old) result place.old place.new }
+fn parse_available<T: Text>(cursor: &mut Cursor<T>) -> Option<BaselineKind>
+    ensures { Reads available result cursor.old cursor.new }
 {
-    let mut trial = Trial::begin(place);
-    let newly = parse_newness(text, trial.place)?;
-    if !skip_whitespace1(text, trial.place) {
+    let mut trial = Trial::begin(cursor);
+    let newly = parse_newness(trial.cursor)?;
+    if !trial.cursor.skip_whitespace1() || !trial.cursor.match_keyword(b"available") {
         return None;
     }
-    if !match_keyword(text, trial.place, b"available") {
-        return None;
-    }
-    let date = parse_on_date(text, trial.place)?;
+    let date = parse_on_date(trial.cursor)?;
     trial.accepted = true;
     Some(kind_of(newly, date))
 }
 
-fn parse_baseline_kind<T: Text>(text: &T, place: &mut usize) -> Option<BaselineKind>
-    ensures { GivesValue (reads baseline_kind (codes (T.Text.cells text.now)) place.old) result place.old place.new }
+// A chain of `if let`, not `or_else`: the check knows nothing of what a closure borrowed and changed.
+fn parse_baseline_kind<T: Text>(cursor: &mut Cursor<T>) -> Option<BaselineKind>
+    ensures { Reads baseline_kind result cursor.old cursor.new }
 {
-    match parse_baseline_year(text, place) {
-        Some(kind) => Some(kind),
-        None => parse_available(text, place),
+    if let Some(kind) = cursor.parse_baseline_year() {
+        return Some(kind);
     }
+    parse_available(cursor)
 }
 
 // Blanks, a word, blanks and another word.
-fn match_two_words<T: Text>(text: &T, place: &mut usize, first: &[u8], second: &[u8]) -> bool
-    ensures { Gives (ends (two_words first.now second.now) (codes (T.Text.cells text.now)) place.old) result place.old place.new }
+fn match_two_words<T: Text>(cursor: &mut Cursor<T>, first: &[u8], second: &[u8]) -> bool
+    ensures { Takes (two_words first.now second.now) result cursor.old cursor.new }
 {
-    let mut trial = Trial::begin(place);
-    if !skip_whitespace1(text, trial.place) {
-        return false;
-    }
-    if !match_keyword(text, trial.place, first) {
-        return false;
-    }
-    if !skip_whitespace1(text, trial.place) {
-        return false;
-    }
-    if !match_keyword(text, trial.place, second) {
-        return false;
-    }
-    trial.accepted = true;
-    true
+    let mut trial = Trial::begin(cursor);
+    trial.accepted = trial.cursor.skip_whitespace1()
+        && trial.cursor.match_keyword(first)
+        && trial.cursor.skip_whitespace1()
+        && trial.cursor.match_keyword(second);
+    trial.accepted
 }
 
-pub fn parse_baseline<T: Text>(text: &T, place: &mut usize) -> Option<QueryAtom>
-    ensures { GivesValue (reads baselined (codes (T.Text.cells text.now)) place.old) result place.old place.new }
+pub fn parse_baseline<T: Text>(cursor: &mut Cursor<T>) -> Option<QueryAtom>
+    ensures { Reads baselined result cursor.old cursor.new }
 {
-    let mut trial = Trial::begin(place);
-    if !match_keyword(text, trial.place, b"baseline") {
+    let mut trial = Trial::begin(cursor);
+    if !trial.cursor.match_keyword(b"baseline") || !trial.cursor.skip_whitespace1() {
         return None;
     }
-    if !skip_whitespace1(text, trial.place) {
-        return None;
-    }
-    let kind = parse_baseline_kind(text, trial.place)?;
-    let downstream = match_two_words(text, trial.place, b"with", b"downstream");
-    let kaios = match_two_words(text, trial.place, b"including", b"kaios");
+    let kind = parse_baseline_kind(trial.cursor)?;
+    let downstream = match_two_words(trial.cursor, b"with", b"downstream");
+    let kaios = match_two_words(trial.cursor, b"including", b"kaios");
     trial.accepted = true;
     Some(QueryAtom::Baseline {
         kind,

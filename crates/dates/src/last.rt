@@ -1,168 +1,128 @@
 // The forms that count: `last` with years or versions, and `unreleased`.
-ghost use Rattle.std.specs.Prelude.{◌≡◌, is_some, Some, codes as bytes};
-ghost use Rattle.texts.specs.Codes.{codes};
-ghost use Rattle.grammar.specs.Form.{reads, first, bind, spot, skip, give, part};
+ghost use Rattle.std.specs.Prelude.{◌≡◌, codes as bytes};
+ghost use Rattle.grammar.specs.Form.{first, bind, spot, skip, give, part};
 ghost use Rattle.grammar.specs.Forms.{named, years, last, unreleased};
-ghost use Rattle.grammar.specs.Gives.{Gives, GivesValue};
-ghost use Rattle.grammar.specs.Rule.{ends, then, else};
+ghost use Rattle.scanner.specs.Position.{Takes, Reads, Yields, stands};
+ghost use Rattle.grammar.specs.Rule.{then};
 ghost use Rattle.grammar.specs.Tokens.{blanks, word, versions, reserved, exactly, name as naming};
 
 use grammar::query::{QueryAtom, Span};
 use scanner::class::Class;
-use scanner::number::parse_u16;
-use scanner::scan::{match_bytes, match_keyword, match_plural_keyword, peek};
-use scanner::token::{parse_identifier, scan_number, skip_whitespace1};
+use scanner::cursor::Cursor;
 use scanner::trial::Trial;
 use texts::text::Text;
 
 // A name that is just this word.
-fn is_word<T: Text>(text: &T, place: usize, word: &[u8]) -> bool
-    ensures { result ≡ is_some (ends (exactly word.now) (codes (T.Text.cells text.now)) place) }
+fn is_word<T: Text>(cursor: &Cursor<T>, word: &[u8]) -> bool
+    ensures { result ≡ stands (exactly word.now) cursor.now }
 {
-    let mut behind = place;
-    if !match_bytes(text, &mut behind, word) {
-        return false;
-    }
-    !peek(text, behind, Class::Naming)
+    let mut behind = cursor.ahead();
+    behind.match_bytes(word) && !behind.peek(Class::Naming)
 }
 
-fn is_versions<T: Text>(text: &T, place: usize) -> bool
-    ensures { result ≡ is_some (ends versions (codes (T.Text.cells text.now)) place) }
+fn is_versions<T: Text>(cursor: &Cursor<T>) -> bool
+    ensures { result ≡ stands versions cursor.now }
 {
-    is_word(text, place, b"version") || is_word(text, place, b"versions")
+    is_word(cursor, b"version") || is_word(cursor, b"versions")
 }
 
-fn is_year<T: Text>(text: &T, place: usize) -> bool
-    ensures { result ≡ is_some (ends (else (exactly (bytes "year")) (exactly (bytes "years"))) (codes (T.Text.cells text.now)) place) }
+fn is_reserved<T: Text>(cursor: &Cursor<T>) -> bool
+    ensures { result ≡ stands reserved cursor.now }
 {
-    is_word(text, place, b"year") || is_word(text, place, b"years")
-}
-
-fn is_major_or_year<T: Text>(text: &T, place: usize) -> bool
-    ensures { result ≡ is_some (ends (else (exactly (bytes "major")) (else (exactly (bytes "year")) (exactly (bytes "years")))) (codes (T.Text.cells text.now)) place) }
-{
-    is_word(text, place, b"major") || is_year(text, place)
-}
-
-fn is_reserved<T: Text>(text: &T, place: usize) -> bool
-    ensures { result ≡ is_some (ends reserved (codes (T.Text.cells text.now)) place) }
-{
-    is_versions(text, place) || is_major_or_year(text, place)
+    is_versions(cursor)
+        || is_word(cursor, b"major")
+        || is_word(cursor, b"year")
+        || is_word(cursor, b"years")
 }
 
 // A name and blanks behind it.
-fn parse_name<T: Text>(text: &T, place: &mut usize) -> Option<Span>
-    ensures { GivesValue (reads (bind (spot naming) (λ n. skip blanks (give {k = part} n))) (codes (T.Text.cells text.now)) place.old) result place.old place.new }
+fn parse_name<T: Text>(cursor: &mut Cursor<T>) -> Option<Span>
+    ensures { Reads (bind (spot naming) (λ n. skip blanks (give {k = part} n))) result cursor.old cursor.new }
 {
-    let mut trial = Trial::begin(place);
-    let name = parse_identifier(text, trial.place)?;
-    if !skip_whitespace1(text, trial.place) {
+    let mut trial = Trial::begin(cursor);
+    let name = trial.cursor.parse_identifier()?;
+    if !trial.cursor.skip_whitespace1() {
         return None;
     }
     trial.accepted = true;
     Some(name)
 }
 
-// The browser's name behind `last` and a count.
-fn parse_last_name<T: Text>(text: &T, place: &mut usize) -> Option<Span>
-    ensures { reads (named reserved) (codes (T.Text.cells text.now)) place.old ≡ Some (result, place.new) }
+// The browser's name behind `last` and a count. It stands beside the next as a function of its own: one that takes the
+// test's answer binds the rule in its clause, and then the proofs of its callers don't close.
+fn parse_last_name<T: Text>(cursor: &mut Cursor<T>) -> Option<Span>
+    ensures { Yields (named reserved) result cursor.old cursor.new }
 {
-    if is_reserved(text, *place) {
+    if is_reserved(cursor) {
         return None;
     }
-    parse_name(text, place)
+    parse_name(cursor)
 }
 
 // The browser's name behind `unreleased`.
-fn parse_unreleased_name<T: Text>(text: &T, place: &mut usize) -> Option<Span>
-    ensures { reads (named versions) (codes (T.Text.cells text.now)) place.old ≡ Some (result, place.new) }
+fn parse_unreleased_name<T: Text>(cursor: &mut Cursor<T>) -> Option<Span>
+    ensures { Yields (named versions) result cursor.old cursor.new }
 {
-    if is_versions(text, *place) {
+    if is_versions(cursor) {
         return None;
     }
-    parse_name(text, place)
+    parse_name(cursor)
 }
 
-// `major` and blanks.
-fn match_major<T: Text>(text: &T, place: &mut usize) -> bool
-    ensures { Gives (ends (then (word (bytes "major")) blanks) (codes (T.Text.cells text.now)) place.old) result place.old place.new }
+pub fn parse_years<T: Text>(cursor: &mut Cursor<T>) -> Option<QueryAtom>
+    ensures { Reads years result cursor.old cursor.new }
 {
-    let mut trial = Trial::begin(place);
-    if !match_keyword(text, trial.place, b"major") {
-        return false;
-    }
-    if !skip_whitespace1(text, trial.place) {
-        return false;
-    }
-    trial.accepted = true;
-    true
-}
-
-pub fn parse_years<T: Text>(text: &T, place: &mut usize) -> Option<QueryAtom>
-    ensures { GivesValue (reads years (codes (T.Text.cells text.now)) place.old) result place.old place.new }
-{
-    let mut trial = Trial::begin(place);
-    if !match_keyword(text, trial.place, b"last") {
+    let mut trial = Trial::begin(cursor);
+    if !trial.cursor.match_keyword(b"last") || !trial.cursor.skip_whitespace1() {
         return None;
     }
-    if !skip_whitespace1(text, trial.place) {
-        return None;
-    }
-    let years = scan_number(text, trial.place)?;
-    if !skip_whitespace1(text, trial.place) {
-        return None;
-    }
-    if !match_plural_keyword(text, trial.place, b"year") {
+    let years = trial.cursor.scan_number()?;
+    if !trial.cursor.skip_whitespace1() || !trial.cursor.match_plural_keyword(b"year") {
         return None;
     }
     trial.accepted = true;
     Some(QueryAtom::Years(years))
 }
 
-pub fn parse_last<T: Text>(text: &T, place: &mut usize) -> Option<QueryAtom>
-    ensures { GivesValue (reads last (codes (T.Text.cells text.now)) place.old) result place.old place.new }
+pub fn parse_last<T: Text>(cursor: &mut Cursor<T>) -> Option<QueryAtom>
+    ensures { Reads last result cursor.old cursor.new }
 {
-    let mut trial = Trial::begin(place);
-    if !match_keyword(text, trial.place, b"last") {
+    let mut trial = Trial::begin(cursor);
+    if !trial.cursor.match_keyword(b"last") || !trial.cursor.skip_whitespace1() {
         return None;
     }
-    if !skip_whitespace1(text, trial.place) {
+    let count = trial.cursor.parse_u16()?;
+    if !trial.cursor.skip_whitespace1() {
         return None;
     }
-    let count = parse_u16(text, trial.place)?;
-    if !skip_whitespace1(text, trial.place) {
-        return None;
-    }
-    let name = parse_last_name(text, trial.place);
-    let major = match_major(text, trial.place);
-    if !match_plural_keyword(text, trial.place, b"version") {
+    let name = parse_last_name(trial.cursor);
+    let major = trial.cursor.match_leading_keyword(b"major");
+    if !trial.cursor.match_plural_keyword(b"version") {
         return None;
     }
     trial.accepted = true;
     Some(QueryAtom::Last { count, major, name })
 }
 
-pub fn parse_last_or_years<T: Text>(text: &T, place: &mut usize) -> Option<QueryAtom>
-    ensures { GivesValue (reads (first years last) (codes (T.Text.cells text.now)) place.old) result place.old place.new }
+// A chain of `if let`, not `or_else`: the check knows nothing of what a closure borrowed and changed.
+pub fn parse_last_or_years<T: Text>(cursor: &mut Cursor<T>) -> Option<QueryAtom>
+    ensures { Reads (first years last) result cursor.old cursor.new }
 {
-    match parse_years(text, place) {
-        Some(atom) => Some(atom),
-        None => parse_last(text, place),
+    if let Some(atom) = parse_years(cursor) {
+        return Some(atom);
     }
+    parse_last(cursor)
 }
 
-pub fn parse_unreleased<T: Text>(text: &T, place: &mut usize) -> Option<QueryAtom>
-    ensures { GivesValue (reads unreleased (codes (T.Text.cells text.now)) place.old) result place.old place.new }
+pub fn parse_unreleased<T: Text>(cursor: &mut Cursor<T>) -> Option<QueryAtom>
+    ensures { Reads unreleased result cursor.old cursor.new }
 {
-    let mut trial = Trial::begin(place);
-    if !match_keyword(text, trial.place, b"unreleased") {
+    let mut trial = Trial::begin(cursor);
+    if !trial.cursor.match_keyword(b"unreleased") || !trial.cursor.skip_whitespace1() {
         return None;
     }
-    if !skip_whitespace1(text, trial.place) {
-        return None;
-    }
-    let name = parse_unreleased_name(text, trial.place);
-    if !match_plural_keyword(text, trial.place, b"version") {
+    let name = parse_unreleased_name(trial.cursor);
+    if !trial.cursor.match_plural_keyword(b"version") {
         return None;
     }
     trial.accepted = true;

@@ -1,210 +1,140 @@
 // Forms of one browser or runtime.
 ghost use Rattle.std.specs.Prelude.{codes as bytes};
-ghost use Rattle.texts.specs.Codes.{codes};
-ghost use Rattle.grammar.specs.Form.{reads, first};
+ghost use Rattle.grammar.specs.Form.{first};
 ghost use Rattle.grammar.specs.Forms.{fully, partially, maintained_node, node, firefox_esr, operamini, phantom, defaults, dead, browser, browser_range};
-ghost use Rattle.grammar.specs.Gives.{Gives, GivesValue};
-ghost use Rattle.grammar.specs.Rule.{ends, then, else};
-ghost use Rattle.grammar.specs.Tokens.{blanks, word};
+ghost use Rattle.scanner.specs.Position.{Takes, Reads};
+ghost use Rattle.grammar.specs.Rule.{else};
+ghost use Rattle.grammar.specs.Tokens.{word};
 
-use crate::supports::{parse_fully_supports, parse_partially_supports};
-use grammar::query::{QueryAtom, VersionRange};
-use scanner::range::parse_version_range;
-use scanner::scan::{match_bytes, match_keyword};
-use scanner::token::{parse_identifier, skip_whitespace1};
+use crate::supports::parse_kind_supports;
+use grammar::query::{QueryAtom, SupportKind, VersionRange};
+use scanner::cursor::Cursor;
 use scanner::trial::Trial;
 use texts::text::Text;
 
 // `firefox`, `ff` or `fx`.
-fn match_firefox<T: Text>(text: &T, place: &mut usize) -> bool
-    ensures { Gives (ends (else (word (bytes "firefox")) (else (word (bytes "ff")) (word (bytes "fx")))) (codes (T.Text.cells text.now)) place.old) result place.old place.new }
+fn match_firefox<T: Text>(cursor: &mut Cursor<T>) -> bool
+    ensures { Takes (else (word (bytes "firefox")) (else (word (bytes "ff")) (word (bytes "fx")))) result cursor.old cursor.new }
 {
-    match_keyword(text, place, b"firefox")
-        || match_keyword(text, place, b"ff")
-        || match_keyword(text, place, b"fx")
+    cursor.match_keyword(b"firefox") || cursor.match_keyword(b"ff") || cursor.match_keyword(b"fx")
 }
 
-pub fn parse_firefox_esr<T: Text>(text: &T, place: &mut usize) -> Option<QueryAtom>
-    ensures { GivesValue (reads firefox_esr (codes (T.Text.cells text.now)) place.old) result place.old place.new }
+pub fn parse_firefox_esr<T: Text>(cursor: &mut Cursor<T>) -> Option<QueryAtom>
+    ensures { Reads firefox_esr result cursor.old cursor.new }
 {
-    let mut trial = Trial::begin(place);
-    if !match_firefox(text, trial.place) {
-        return None;
-    }
-    if !skip_whitespace1(text, trial.place) {
-        return None;
-    }
-    if !match_keyword(text, trial.place, b"esr") {
-        return None;
-    }
-    trial.accepted = true;
-    Some(QueryAtom::FirefoxESR)
+    let mut trial = Trial::begin(cursor);
+    trial.accepted = match_firefox(trial.cursor)
+        && trial.cursor.skip_whitespace1()
+        && trial.cursor.match_keyword(b"esr");
+    trial.accepted.then_some(QueryAtom::FirefoxESR)
 }
 
-pub fn parse_firefox_or_fully<T: Text>(text: &T, place: &mut usize) -> Option<QueryAtom>
-    ensures { GivesValue (reads (first firefox_esr fully) (codes (T.Text.cells text.now)) place.old) result place.old place.new }
+// A chain of `if let`, not `or_else`: the check knows nothing of what a closure borrowed and changed.
+pub fn parse_firefox_or_fully<T: Text>(cursor: &mut Cursor<T>) -> Option<QueryAtom>
+    ensures { Reads (first firefox_esr fully) result cursor.old cursor.new }
 {
-    match parse_firefox_esr(text, place) {
-        Some(atom) => Some(atom),
-        None => parse_fully_supports(text, place),
+    if let Some(atom) = parse_firefox_esr(cursor) {
+        return Some(atom);
     }
+    parse_kind_supports(cursor, b"fully", Some(SupportKind::Fully))
 }
 
 // `operamini` or `op_mini`.
-fn match_operamini<T: Text>(text: &T, place: &mut usize) -> bool
-    ensures { Gives (ends (else (word (bytes "operamini")) (word (bytes "op_mini"))) (codes (T.Text.cells text.now)) place.old) result place.old place.new }
+fn match_operamini<T: Text>(cursor: &mut Cursor<T>) -> bool
+    ensures { Takes (else (word (bytes "operamini")) (word (bytes "op_mini"))) result cursor.old cursor.new }
 {
-    match_keyword(text, place, b"operamini") || match_keyword(text, place, b"op_mini")
+    cursor.match_keyword(b"operamini") || cursor.match_keyword(b"op_mini")
 }
 
-pub fn parse_operamini<T: Text>(text: &T, place: &mut usize) -> Option<QueryAtom>
-    ensures { GivesValue (reads operamini (codes (T.Text.cells text.now)) place.old) result place.old place.new }
+pub fn parse_operamini<T: Text>(cursor: &mut Cursor<T>) -> Option<QueryAtom>
+    ensures { Reads operamini result cursor.old cursor.new }
 {
-    let mut trial = Trial::begin(place);
-    if !match_operamini(text, trial.place) {
-        return None;
-    }
-    if !skip_whitespace1(text, trial.place) {
-        return None;
-    }
-    if !match_keyword(text, trial.place, b"all") {
-        return None;
-    }
-    trial.accepted = true;
-    Some(QueryAtom::OperaMini)
+    let mut trial = Trial::begin(cursor);
+    trial.accepted = match_operamini(trial.cursor)
+        && trial.cursor.skip_whitespace1()
+        && trial.cursor.match_keyword(b"all");
+    trial.accepted.then_some(QueryAtom::OperaMini)
 }
 
-pub fn parse_maintained_node<T: Text>(text: &T, place: &mut usize) -> Option<QueryAtom>
-    ensures { GivesValue (reads maintained_node (codes (T.Text.cells text.now)) place.old) result place.old place.new }
+pub fn parse_maintained_node<T: Text>(cursor: &mut Cursor<T>) -> Option<QueryAtom>
+    ensures { Reads maintained_node result cursor.old cursor.new }
 {
-    let mut trial = Trial::begin(place);
-    if !match_keyword(text, trial.place, b"maintained") {
-        return None;
-    }
-    if !skip_whitespace1(text, trial.place) {
-        return None;
-    }
-    if !match_keyword(text, trial.place, b"node") {
-        return None;
-    }
-    if !skip_whitespace1(text, trial.place) {
-        return None;
-    }
-    if !match_keyword(text, trial.place, b"versions") {
-        return None;
-    }
-    trial.accepted = true;
-    Some(QueryAtom::MaintainedNode)
+    let mut trial = Trial::begin(cursor);
+    trial.accepted = trial.cursor.match_keyword(b"maintained")
+        && trial.cursor.skip_whitespace1()
+        && trial.cursor.match_keyword(b"node")
+        && trial.cursor.skip_whitespace1()
+        && trial.cursor.match_keyword(b"versions");
+    trial.accepted.then_some(QueryAtom::MaintainedNode)
 }
 
-pub fn parse_phantom<T: Text>(text: &T, place: &mut usize) -> Option<QueryAtom>
-    ensures { GivesValue (reads phantom (codes (T.Text.cells text.now)) place.old) result place.old place.new }
+pub fn parse_phantom<T: Text>(cursor: &mut Cursor<T>) -> Option<QueryAtom>
+    ensures { Reads phantom result cursor.old cursor.new }
 {
-    let mut trial = Trial::begin(place);
-    if !match_keyword(text, trial.place, b"phantomjs") {
+    let mut trial = Trial::begin(cursor);
+    if !trial.cursor.match_keyword(b"phantomjs") || !trial.cursor.skip_whitespace1() {
         return None;
     }
-    if !skip_whitespace1(text, trial.place) {
-        return None;
-    }
-    if match_bytes(text, trial.place, b"2.1") {
+    if trial.cursor.match_bytes(b"2.1") {
         trial.accepted = true;
         return Some(QueryAtom::Phantom(true));
     }
-    if !match_bytes(text, trial.place, b"1.9") {
+    if !trial.cursor.match_bytes(b"1.9") {
         return None;
     }
     trial.accepted = true;
     Some(QueryAtom::Phantom(false))
 }
 
-pub fn parse_phantom_or_partially<T: Text>(text: &T, place: &mut usize) -> Option<QueryAtom>
-    ensures { GivesValue (reads (first phantom partially) (codes (T.Text.cells text.now)) place.old) result place.old place.new }
+// A chain of `if let`, not `or_else`: the check knows nothing of what a closure borrowed and changed.
+pub fn parse_phantom_or_partially<T: Text>(cursor: &mut Cursor<T>) -> Option<QueryAtom>
+    ensures { Reads (first phantom partially) result cursor.old cursor.new }
 {
-    match parse_phantom(text, place) {
-        Some(atom) => Some(atom),
-        None => parse_partially_supports(text, place),
+    if let Some(atom) = parse_phantom(cursor) {
+        return Some(atom);
     }
+    parse_kind_supports(cursor, b"partially", Some(SupportKind::Partially))
 }
 
-fn parse_defaults<T: Text>(text: &T, place: &mut usize) -> Option<QueryAtom>
-    ensures { GivesValue (reads defaults (codes (T.Text.cells text.now)) place.old) result place.old place.new }
+pub fn parse_defaults_or_dead<T: Text>(cursor: &mut Cursor<T>) -> Option<QueryAtom>
+    ensures { Reads (first defaults dead) result cursor.old cursor.new }
 {
-    if match_keyword(text, place, b"defaults") {
-        Some(QueryAtom::Defaults)
-    } else {
-        None
+    if cursor.match_keyword(b"defaults") {
+        return Some(QueryAtom::Defaults);
     }
+    cursor.match_keyword(b"dead").then_some(QueryAtom::Dead)
 }
 
-fn parse_dead<T: Text>(text: &T, place: &mut usize) -> Option<QueryAtom>
-    ensures { GivesValue (reads dead (codes (T.Text.cells text.now)) place.old) result place.old place.new }
+pub fn parse_node<T: Text>(cursor: &mut Cursor<T>) -> Option<QueryAtom>
+    ensures { Reads node result cursor.old cursor.new }
 {
-    if match_keyword(text, place, b"dead") {
-        Some(QueryAtom::Dead)
-    } else {
-        None
-    }
-}
-
-pub fn parse_defaults_or_dead<T: Text>(text: &T, place: &mut usize) -> Option<QueryAtom>
-    ensures { GivesValue (reads (first defaults dead) (codes (T.Text.cells text.now)) place.old) result place.old place.new }
-{
-    match parse_defaults(text, place) {
-        Some(atom) => Some(atom),
-        None => parse_dead(text, place),
-    }
-}
-
-pub fn parse_node<T: Text>(text: &T, place: &mut usize) -> Option<QueryAtom>
-    ensures { GivesValue (reads node (codes (T.Text.cells text.now)) place.old) result place.old place.new }
-{
-    let mut trial = Trial::begin(place);
-    if !match_keyword(text, trial.place, b"node") {
+    let mut trial = Trial::begin(cursor);
+    if !trial.cursor.match_keyword(b"node") {
         return None;
     }
-    let range = parse_version_range(text, trial.place)?;
+    let range = trial.cursor.parse_version_range()?;
     trial.accepted = true;
     Some(QueryAtom::Node(range))
 }
 
-// Blanks and `tp`, the technology preview.
-fn match_preview<T: Text>(text: &T, place: &mut usize) -> bool
-    ensures { Gives (ends (then blanks (word (bytes "tp"))) (codes (T.Text.cells text.now)) place.old) result place.old place.new }
+// A range, or blanks and `tp`. By a chain of `if let`, not `or_else`: the check knows nothing of what a closure borrowed and changed.
+fn parse_browser_range<T: Text>(cursor: &mut Cursor<T>) -> Option<VersionRange>
+    ensures { Reads browser_range result cursor.old cursor.new }
 {
-    let mut trial = Trial::begin(place);
-    if !skip_whitespace1(text, trial.place) {
-        return false;
+    if let Some(range) = cursor.parse_version_range() {
+        return Some(range);
     }
-    if !match_keyword(text, trial.place, b"tp") {
-        return false;
-    }
-    trial.accepted = true;
-    true
+    cursor
+        .match_spaced_keyword(b"tp")
+        .then_some(VersionRange::Preview)
 }
 
-// A range, or blanks and `tp`.
-fn parse_browser_range<T: Text>(text: &T, place: &mut usize) -> Option<VersionRange>
-    ensures { GivesValue (reads browser_range (codes (T.Text.cells text.now)) place.old) result place.old place.new }
+pub fn parse_browser<T: Text>(cursor: &mut Cursor<T>) -> Option<QueryAtom>
+    ensures { Reads browser result cursor.old cursor.new }
 {
-    match parse_version_range(text, place) {
-        Some(range) => Some(range),
-        None => {
-            if match_preview(text, place) {
-                Some(VersionRange::Preview)
-            } else {
-                None
-            }
-        }
-    }
-}
-
-pub fn parse_browser<T: Text>(text: &T, place: &mut usize) -> Option<QueryAtom>
-    ensures { GivesValue (reads browser (codes (T.Text.cells text.now)) place.old) result place.old place.new }
-{
-    let mut trial = Trial::begin(place);
-    let name = parse_identifier(text, trial.place)?;
-    let range = parse_browser_range(text, trial.place)?;
+    let mut trial = Trial::begin(cursor);
+    let name = trial.cursor.parse_identifier()?;
+    let range = parse_browser_range(trial.cursor)?;
     trial.accepted = true;
     Some(QueryAtom::Browser(name, range))
 }

@@ -1,63 +1,42 @@
 // Forms with a share of users: `>`, `<` and `cover`; and `current node`, which begins with the same letter.
-ghost use Rattle.std.specs.Prelude.{codes as bytes};
-ghost use Rattle.texts.specs.Codes.{codes};
-ghost use Rattle.grammar.specs.Form.{reads, first};
+ghost use Rattle.grammar.specs.Form.{first};
 ghost use Rattle.grammar.specs.Forms.{tail, percentage, cover, current_node};
-ghost use Rattle.grammar.specs.Gives.{Gives, GivesValue};
-ghost use Rattle.grammar.specs.Rule.{ends, then};
-ghost use Rattle.grammar.specs.Tokens.{blanks, word};
+ghost use Rattle.scanner.specs.Position.{Reads};
 
 use grammar::query::{QueryAtom, Stats};
-use scanner::range::parse_comparator;
-use scanner::scan::{eat, match_keyword};
-use scanner::token::{parse_region, scan_number, skip_whitespace, skip_whitespace1};
+use scanner::cursor::Cursor;
 use scanner::trial::Trial;
 use texts::text::Text;
 
-// Blanks and `in`.
-fn match_in<T: Text>(text: &T, place: &mut usize) -> bool
-    ensures { Gives (ends (then blanks (word (bytes "in"))) (codes (T.Text.cells text.now)) place.old) result place.old place.new }
-{
-    let mut trial = Trial::begin(place);
-    if !skip_whitespace1(text, trial.place) {
-        return false;
-    }
-    if !match_keyword(text, trial.place, b"in") {
-        return false;
-    }
-    trial.accepted = true;
-    true
-}
-
 // Whose statistics count. Blanks without `in` behind them stay read.
-fn parse_stats<T: Text>(text: &T, place: &mut usize) -> Option<Stats>
-    ensures { GivesValue (reads tail (codes (T.Text.cells text.now)) place.old) result place.old place.new }
+fn parse_stats<T: Text>(cursor: &mut Cursor<T>) -> Option<Stats>
+    ensures { Reads tail result cursor.old cursor.new }
 {
-    let mut trial = Trial::begin(place);
-    if match_in(text, trial.place) {
-        if !skip_whitespace1(text, trial.place) {
+    let mut trial = Trial::begin(cursor);
+    if trial.cursor.match_spaced_keyword(b"in") {
+        if !trial.cursor.skip_whitespace1() {
             return None;
         }
-        let region = parse_region(text, trial.place)?;
+        let region = trial.cursor.parse_region()?;
         trial.accepted = true;
         return Some(Stats::Region(region));
     }
-    skip_whitespace(text, trial.place);
+    trial.cursor.skip_whitespace();
     trial.accepted = true;
     Some(Stats::Global)
 }
 
-pub fn parse_percentage<T: Text>(text: &T, place: &mut usize) -> Option<QueryAtom>
-    ensures { GivesValue (reads percentage (codes (T.Text.cells text.now)) place.old) result place.old place.new }
+pub fn parse_percentage<T: Text>(cursor: &mut Cursor<T>) -> Option<QueryAtom>
+    ensures { Reads percentage result cursor.old cursor.new }
 {
-    let mut trial = Trial::begin(place);
-    let comparator = parse_comparator(text, trial.place)?;
-    skip_whitespace(text, trial.place);
-    let popularity = scan_number(text, trial.place)?;
-    if !eat(text, trial.place, b'%') {
+    let mut trial = Trial::begin(cursor);
+    let comparator = trial.cursor.parse_comparator()?;
+    trial.cursor.skip_whitespace();
+    let popularity = trial.cursor.scan_number()?;
+    if !trial.cursor.eat(b'%') {
         return None;
     }
-    let stats = parse_stats(text, trial.place)?;
+    let stats = parse_stats(trial.cursor)?;
     trial.accepted = true;
     Some(QueryAtom::Percentage {
         comparator,
@@ -66,47 +45,38 @@ pub fn parse_percentage<T: Text>(text: &T, place: &mut usize) -> Option<QueryAto
     })
 }
 
-pub fn parse_cover<T: Text>(text: &T, place: &mut usize) -> Option<QueryAtom>
-    ensures { GivesValue (reads cover (codes (T.Text.cells text.now)) place.old) result place.old place.new }
+pub fn parse_cover<T: Text>(cursor: &mut Cursor<T>) -> Option<QueryAtom>
+    ensures { Reads cover result cursor.old cursor.new }
 {
-    let mut trial = Trial::begin(place);
-    if !match_keyword(text, trial.place, b"cover") {
+    let mut trial = Trial::begin(cursor);
+    if !trial.cursor.match_keyword(b"cover") || !trial.cursor.skip_whitespace1() {
         return None;
     }
-    if !skip_whitespace1(text, trial.place) {
+    let coverage = trial.cursor.scan_number()?;
+    if !trial.cursor.eat(b'%') {
         return None;
     }
-    let coverage = scan_number(text, trial.place)?;
-    if !eat(text, trial.place, b'%') {
-        return None;
-    }
-    let stats = parse_stats(text, trial.place)?;
+    let stats = parse_stats(trial.cursor)?;
     trial.accepted = true;
     Some(QueryAtom::Cover { coverage, stats })
 }
 
-pub fn parse_current_node<T: Text>(text: &T, place: &mut usize) -> Option<QueryAtom>
-    ensures { GivesValue (reads current_node (codes (T.Text.cells text.now)) place.old) result place.old place.new }
+pub fn parse_current_node<T: Text>(cursor: &mut Cursor<T>) -> Option<QueryAtom>
+    ensures { Reads current_node result cursor.old cursor.new }
 {
-    let mut trial = Trial::begin(place);
-    if !match_keyword(text, trial.place, b"current") {
-        return None;
-    }
-    if !skip_whitespace1(text, trial.place) {
-        return None;
-    }
-    if !match_keyword(text, trial.place, b"node") {
-        return None;
-    }
-    trial.accepted = true;
-    Some(QueryAtom::CurrentNode)
+    let mut trial = Trial::begin(cursor);
+    trial.accepted = trial.cursor.match_keyword(b"current")
+        && trial.cursor.skip_whitespace1()
+        && trial.cursor.match_keyword(b"node");
+    trial.accepted.then_some(QueryAtom::CurrentNode)
 }
 
-pub fn parse_cover_or_current<T: Text>(text: &T, place: &mut usize) -> Option<QueryAtom>
-    ensures { GivesValue (reads (first cover current_node) (codes (T.Text.cells text.now)) place.old) result place.old place.new }
+// A chain of `if let`, not `or_else`: the check knows nothing of what a closure borrowed and changed.
+pub fn parse_cover_or_current<T: Text>(cursor: &mut Cursor<T>) -> Option<QueryAtom>
+    ensures { Reads (first cover current_node) result cursor.old cursor.new }
 {
-    match parse_cover(text, place) {
-        Some(atom) => Some(atom),
-        None => parse_current_node(text, place),
+    if let Some(atom) = parse_cover(cursor) {
+        return Some(atom);
     }
+    parse_current_node(cursor)
 }

@@ -1,7 +1,7 @@
 // Worked examples, jointly of the one query and the one separator.
 ghost use Rattle.grammar.specs.Examples.{CountWraps, MonthLeftOut, ElectronAlone, ElectronUnknown, NotUnknown, NotAlone, BlanksBeforeComma, UnknownWithBlank, PhantomMore, CommaLast, CommaTwice, PointBack, LastABrowser};
 
-pub fn worked_examples() -> u8
+pub fn worked_examples()
     ensures count_wraps { CountWraps }
     ensures month_left_out { MonthLeftOut }
     ensures electron_alone { ElectronAlone }
@@ -15,6 +15,4 @@ pub fn worked_examples() -> u8
     ensures comma_twice { CommaTwice }
     ensures point_back { PointBack }
     ensures last_a_browser { LastABrowser }
-{
-    0
-}
+{}

@@ -5,13 +5,13 @@ ghost use Rattle.grammar.specs.Names.{name_of};
 ghost use Rattle.std.specs.Ordering.{is_some_and};
 
 // A part of the text: from its start up to its end.
-#[derive(Clone, Copy)]
+#[derive(Clone, Copy, Debug, PartialEq)]
 pub struct Span {
     pub start: usize,
     pub end: usize,
 }
 
-#[derive(Clone, Copy)]
+#[derive(Clone, Copy, Debug, PartialEq)]
 pub enum BaselineKind {
     Year(u32),
     LegacyYear(u32),
@@ -22,7 +22,7 @@ pub enum BaselineKind {
     WidelyAvailableOnDate { year: i64, month: u32, day: u32 },
 }
 
-#[derive(Clone, Copy)]
+#[derive(Clone, Copy, Debug, PartialEq)]
 pub enum QueryAtom {
     Last {
         count: u16,
@@ -65,66 +65,47 @@ pub enum QueryAtom {
 }
 
 impl QueryAtom {
-    // The name of the form.
+    // The name of the form. A `match`, since its clause has the names, of which a derived `Debug` says nothing.
     pub fn name(&self) -> &'static str
         ensures { result.now ≡ name_of self.now }
     {
         match *self {
-            QueryAtom::Last {
-                count: _,
-                major: _,
-                name: _,
-            } => "Last",
-            QueryAtom::Unreleased(_) => "Unreleased",
-            QueryAtom::Years(_) => "Years",
-            QueryAtom::Since {
-                year: _,
-                month: _,
-                day: _,
-            } => "Since",
-            QueryAtom::Percentage {
-                comparator: _,
-                popularity: _,
-                stats: _,
-            } => "Percentage",
-            QueryAtom::Cover {
-                coverage: _,
-                stats: _,
-            } => "Cover",
-            QueryAtom::Supports(_, _) => "Supports",
-            QueryAtom::Electron(_) => "Electron",
-            QueryAtom::Node(_) => "Node",
-            QueryAtom::Browser(_, _) => "Browser",
-            QueryAtom::Baseline {
-                kind: _,
-                downstream: _,
-                kaios: _,
-            } => "Baseline",
+            QueryAtom::Last { .. } => "Last",
+            QueryAtom::Unreleased(..) => "Unreleased",
+            QueryAtom::Years(..) => "Years",
+            QueryAtom::Since { .. } => "Since",
+            QueryAtom::Percentage { .. } => "Percentage",
+            QueryAtom::Cover { .. } => "Cover",
+            QueryAtom::Supports(..) => "Supports",
+            QueryAtom::Electron(..) => "Electron",
+            QueryAtom::Node(..) => "Node",
+            QueryAtom::Browser(..) => "Browser",
+            QueryAtom::Baseline { .. } => "Baseline",
             QueryAtom::FirefoxESR => "FirefoxESR",
             QueryAtom::OperaMini => "OperaMini",
             QueryAtom::CurrentNode => "CurrentNode",
             QueryAtom::MaintainedNode => "MaintainedNode",
-            QueryAtom::Phantom(_) => "Phantom",
+            QueryAtom::Phantom(..) => "Phantom",
             QueryAtom::Defaults => "Defaults",
             QueryAtom::Dead => "Dead",
-            QueryAtom::Unknown(_) => "Unknown",
+            QueryAtom::Unknown(..) => "Unknown",
         }
     }
 }
 
-#[derive(Clone, Copy)]
+#[derive(Clone, Copy, Debug, PartialEq)]
 pub enum Stats {
     Global,
     Region(Span),
 }
 
-#[derive(Clone, Copy)]
+#[derive(Clone, Copy, Debug, PartialEq)]
 pub enum SupportKind {
     Fully,
     Partially,
 }
 
-#[derive(Clone, Copy)]
+#[derive(Clone, Copy, Debug, PartialEq)]
 pub enum Comparator {
     Less,
     LessOrEqual,
@@ -145,7 +126,7 @@ impl Comparator {
     }
 }
 
-#[derive(Clone, Copy)]
+#[derive(Clone, Copy, Debug, PartialEq)]
 pub enum VersionRange {
     Bounded(Span, Span),
     Unbounded(Comparator, Span),
@@ -154,7 +135,7 @@ pub enum VersionRange {
     Preview,
 }
 
-#[derive(Clone, Copy)]
+#[derive(Clone, Copy, Debug, PartialEq)]
 pub struct SingleQuery {
     pub raw: Span,
     pub atom: QueryAtom,

@@ -3,19 +3,15 @@ ghost use Rattle.grammar.specs.Along.{FormShift, QueryMoves, AnyGrammar, queries
 ghost use Rattle.grammar.specs.Readings.{Sound, Single, Spells, Joins};
 
 // What stands before a place does not matter, but that it moves places along.
-pub fn shift_laws() -> u8
+pub fn shift_laws()
     ensures forms { FormShift }
     ensures query { QueryMoves }
-{
-    0
-}
+{}
 
-pub fn reading_laws() -> u8
+pub fn reading_laws()
     ensures any { AnyGrammar }
     ensures sound { Sound queries }
     ensures single { Single queries }
     ensures spells { Spells queries }
     ensures joins { Joins queries }
-{
-    0
-}
+{}

@@ -6,6 +6,7 @@ use Rattle.grammar.specs.Form.{atom, reads, give, bind, when, first, fail, decid
 use Rattle.grammar.specs.Forms.{percentage, browser, electron_or_browser, letters, lettered, among, committed, formed, unknown, ranging}
 use Rattle.grammar.specs.Gives.{GivesValue, left}
 use Rattle.grammar.specs.Rule.{ends, look, next}
+use Rattle.scanner.specs.Position.{Position, Reads, ReadsOr}
 use Rattle.grammar.specs.Tokens.{word, spelled, boundary}
 use Rattle.grammar.specs.declared.query.QueryAtom.{QueryAtom}
 use Rattle.grammar.specs.declared.query.QueryAtom.TheVariants.{Electron}
@@ -58,3 +59,9 @@ formed_first t p q a g = (formed_is t p ∙ ap (λ o. first_of o (reads unknown 
 pub formed_second : (t : List ℕ) (p m q : ℕ) (r : Option QueryAtom) → GivesValue (reads lettered t p) None (committed t p) m → GivesValue (reads unknown t m) r m q → GivesValue (reads formed t p) r (committed t p) q
 formed_second t p m q r g h =
     (formed_is t p ∙ (ap (λ o. first_of o (reads unknown t (committed t p))) g.0 ∙ (ap (reads unknown t) g.1 ∙ h.0)), ap (left r q) g.1 ∙ h.1)
+
+-- the same of cursors
+pub formed_behind : (from mid to : Position) (r : Option QueryAtom) → ReadsOr lettered committed None from mid → Reads unknown r mid to → ReadsOr formed committed r from to
+formed_behind from mid to r g h =
+    let k = g.0 in
+    (h.0 ∙ k, formed_second from.text from.place mid.place to.place r g.1 (ap (λ t. reads unknown t mid.place) (sym k) ∙ h.1.0, h.1.1))

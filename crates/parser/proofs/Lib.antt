@@ -1,3 +1,2 @@
 pub mod Electron
-pub mod Negation
 pub mod Unknowns

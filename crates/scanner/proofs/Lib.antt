@@ -3,3 +3,5 @@ pub mod Inside
 pub mod Spans
 pub mod Spelling
 pub mod Years
+pub mod Runs
+pub mod Onward

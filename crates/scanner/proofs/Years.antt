@@ -1,23 +1,9 @@
--- Years: a value that stops at 2^32, the kind of a baseline year, and years with a sign.
-use Rattle.std.proofs.Common.{◌≡◌, ℕ, ◌+◌, ◌-◌, ◌*◌, ◌%◌, ◌^◌, ◌<◌, ◌≤◌, min, leb, List, length, drop, ℤ, pos, ◌-ℤ◌, neg_ℤ, sym, refl, ap, ◌∙◌, ⊎_elim, arith, length-drop, w32, SFits, to_z, of_z}
+-- Years: how many digits one has, and years with a sign.
+use Rattle.std.proofs.Common.{◌≡◌, ℕ, ◌-◌, ◌%◌, ◌^◌, ◌≤◌, List, length, drop, ℤ, pos, ◌-ℤ◌, neg_ℤ, sym, refl, ap, ◌∙◌, arith, length-drop, w32, SFits, to_z, of_z}
 use Rattle.std.specs.Int.{int_wrap}
 use Rattle.std.proofs.lemmas.List.{length-take-le}
 use Rattle.std.proofs.lemmas.Int.{wrapping_neg_is, int_wrap-sub_right, ints}
-use Rattle.std.proofs.lemmas.Bool.{cases_lt, cond-false, lt-leb}
-use Rattle.grammar.specs.Decimal.{more, year_kind}
 use Rattle.grammar.specs.Form.{between}
-
--- a digit more of a value that stops at 2^32
-pub capped_step : (v n d b m : ℕ) → n ≡ min v 4294967296 → d ≡ b - 48 → m ≡ min (n * 10 + d) 4294967296 → m ≡ min (more v b) 4294967296
-capped_step v n d b m e f h = omega arith
-
--- the kind of a year can be told from the value that stops at 2^32
-pub capped_kind : (v n k : ℕ) → v ≡ min n 4294967296 → year_kind v k ≡ year_kind n k
-capped_kind v n k e =
-    ⊎_elim
-    (λ (l : n < 4294967296). ap (λ x. year_kind x k) (omega arith))
-    (λ (l : 4294967296 ≤ n). cond-false (leb v 4294967295) _ _ (lt-leb v 4294967295 (omega arith)) ∙ sym (cond-false (leb n 4294967295) _ _ (lt-leb n 4294967295 (omega arith))))
-    (cases_lt n 4294967296)
 
 pub length_between : (t : List ℕ) (s p : ℕ) → p ≤ length t → length (between t s p) ≡ p - s
 length_between t s p l = length-take-le (p - s) (drop s t) (omega (arith, length-drop s t))

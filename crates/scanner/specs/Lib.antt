@@ -1,1 +1,3 @@
 pub mod Within
+pub mod Position
+pub mod Years

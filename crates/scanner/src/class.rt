@@ -1,8 +1,9 @@
 // Classes of codes.
 ghost use Rattle.std.specs.Prelude.{◌≡◌};
-ghost use Rattle.grammar.specs.Classes.{lower, letter, digit};
+ghost use Rattle.texts.specs.Codes.{byte_code};
 ghost use Rattle.scanner.specs.Within.{within};
 
+// A name for each class, matched in one place: a closure as class would bring its meaning into each scanner's contract.
 #[derive(Clone, Copy)]
 pub enum Class {
     Letter,
@@ -15,41 +16,19 @@ pub enum Class {
     Present,
 }
 
-// A capital letter as its small one.
-pub fn lowered(code: u16) -> u16
-    ensures { result ≡ lower code }
+// A byte of the class; what is no byte is in none.
+pub(crate) fn is_in(class: Class, byte: Option<u8>) -> bool
+    ensures { result ≡ within class (byte_code byte) }
 {
-    if code >= 65 && code <= 90 {
-        code + 32
-    } else {
-        code
-    }
-}
-
-fn is_letter(code: u16) -> bool
-    ensures { result ≡ letter code }
-{
-    let low = lowered(code);
-    low >= 97 && low <= 122
-}
-
-fn is_digit(code: u16) -> bool
-    ensures { result ≡ digit code }
-{
-    code >= 48 && code <= 57
-}
-
-pub fn is_in(class: Class, code: u16) -> bool
-    ensures { result ≡ within class code }
-{
-    match class {
-        Class::Letter => is_letter(code),
-        Class::Digit => is_digit(code),
-        Class::Blank => code == 32 || code == 9,
-        Class::Wordly => is_letter(code) || is_digit(code) || code == 95,
-        Class::Naming => is_letter(code) || code == 95,
-        Class::Featured => is_letter(code) || is_digit(code) || code == 45,
-        Class::Numeral => is_digit(code) || code == 46,
-        Class::Present => code <= 255,
+    match (class, byte) {
+        (_, None) => false,
+        (Class::Letter, Some(b)) => b.is_ascii_alphabetic(),
+        (Class::Digit, Some(b)) => b.is_ascii_digit(),
+        (Class::Blank, Some(b)) => b == b' ' || b == b'\t',
+        (Class::Wordly, Some(b)) => b.is_ascii_alphanumeric() || b == b'_',
+        (Class::Naming, Some(b)) => b.is_ascii_alphabetic() || b == b'_',
+        (Class::Featured, Some(b)) => b.is_ascii_alphanumeric() || b == b'-',
+        (Class::Numeral, Some(b)) => b.is_ascii_digit() || b == b'.',
+        (Class::Present, Some(_)) => true,
     }
 }

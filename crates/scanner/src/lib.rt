@@ -2,6 +2,7 @@
 #![tactic(auto)]
 
 pub mod class;
+pub mod cursor;
 pub mod number;
 pub mod range;
 pub mod scan;

@@ -1,104 +1,122 @@
-// Numbers: digits as they are read, in wrapping arithmetic.
-ghost use Rattle.std.specs.Prelude.{◌≡◌, ℕ, ◌+◌, ◌-◌, ◌<◌, min, true, false, IfSome, Some, slice_index_or};
-ghost use Rattle.texts.specs.Codes.{codes};
+// Numbers: digits as they are read, by what a type makes of their value.
+ghost use Rattle.std.specs.Prelude.{◌≡◌, ℕ, ◌+◌, ◌*◌, ◌%◌, ◌<◌, ◌≤◌, min, IfSome};
 ghost use Rattle.grammar.specs.Classes.{digit};
-ghost use Rattle.grammar.specs.Decimal.{value, count, calendar};
-ghost use Rattle.grammar.specs.Form.{reads, between};
+ghost use Rattle.grammar.specs.Decimal.{value};
+ghost use Rattle.grammar.specs.Form.{between};
 ghost use Rattle.grammar.specs.Forms.{counted, calendared, one_digit, two_digits, four_digits};
-ghost use Rattle.grammar.specs.Gives.{GivesValue};
-ghost use Rattle.grammar.specs.Rule.{ends};
 ghost use Rattle.grammar.specs.Tokens.{any};
+ghost use Rattle.scanner.specs.Position.{Skips, Reads, ReadsDigits};
 
 use crate::class::Class;
-use crate::scan::{eat_class, peek};
+use crate::cursor::Cursor;
 use crate::trial::Trial;
-use texts::code::code_at;
 use texts::text::Text;
 
-// The digit at a place, as a number.
-pub fn digit_at<T: Text>(text: &T, place: usize) -> u16
-    ensures { result ≡ slice_index_or (codes (T.Text.cells text.now)) place 256 - 48 }
-{
-    code_at(text, place).saturating_sub(48)
+// A type that digits are read as: some function of their value, kept digit by digit.
+pub trait Number {
+    ghost of_value: { ℕ → Self };
+
+    fn zero() -> Self
+        ensures { result ≡ of_value 0 };
+
+    // One digit more.
+    fn more(self, digit: u8) -> Self
+        ensures { (v : ℕ) → self ≡ of_value v → result ≡ of_value (v * 10 + digit) };
 }
 
-// A run of digits, and its value modulo 65,536.
-fn digits_u16<T: Text>(text: &T, place: &mut usize) -> u16
-    ensures took { ends (any digit) (codes (T.Text.cells text.now)) place.old ≡ Some place.new }
-    ensures value { result ≡ count (between (codes (T.Text.cells text.now)) place.old place.new) }
-{
-    let mut n: u16 = 0;
-    while peek(text, *place, Class::Digit) {
-        n = n.wrapping_mul(10).wrapping_add(digit_at(text, *place));
-        *place += 1;
+// The value modulo 65,536.
+impl Number for u16 {
+    ghost of_value = { λ v. v % 65536 };
+
+    fn zero() -> u16 {
+        0
     }
-    n
-}
 
-// A run of digits, and its value modulo 4,294,967,296.
-pub fn digits_u32<T: Text>(text: &T, place: &mut usize) -> u32
-    ensures took { ends (any digit) (codes (T.Text.cells text.now)) place.old ≡ Some place.new }
-    ensures value { result ≡ calendar (between (codes (T.Text.cells text.now)) place.old place.new) }
-{
-    let mut n: u32 = 0;
-    while peek(text, *place, Class::Digit) {
-        n = n
-            .wrapping_mul(10)
-            .wrapping_add(u32::from(digit_at(text, *place)));
-        *place += 1;
+    fn more(self, digit: u8) -> u16 {
+        self.wrapping_mul(10).wrapping_add(u16::from(digit))
     }
-    n
 }
 
-pub fn parse_u16<T: Text>(text: &T, place: &mut usize) -> Option<u16>
-    ensures { GivesValue (reads counted (codes (T.Text.cells text.now)) place.old) result place.old place.new }
-{
-    if !peek(text, *place, Class::Digit) {
-        return None;
+// The value modulo 4,294,967,296.
+impl Number for u32 {
+    ghost of_value = { λ v. v % 4294967296 };
+
+    fn zero() -> u32 {
+        0
     }
-    Some(digits_u16(text, place))
-}
 
-pub fn parse_u32<T: Text>(text: &T, place: &mut usize) -> Option<u32>
-    ensures { GivesValue (reads calendared (codes (T.Text.cells text.now)) place.old) result place.old place.new }
-{
-    if !peek(text, *place, Class::Digit) {
-        return None;
+    fn more(self, digit: u8) -> u32 {
+        self.wrapping_mul(10).wrapping_add(u32::from(digit))
     }
-    Some(digits_u32(text, place))
 }
 
-// One digit.
-fn parse_digit<T: Text>(text: &T, place: &mut usize) -> Option<u32>
-    ensures value { GivesValue (reads one_digit (codes (T.Text.cells text.now)) place.old) result place.old place.new }
-    ensures small { IfSome result (λ d. d < 10) }
-{
-    let digit = digit_at(text, *place);
-    if !eat_class(text, place, Class::Digit) {
-        return None;
+impl<T: Text> Cursor<T> {
+    // One digit.
+    fn parse_digit(&mut self) -> Option<u8>
+        ensures value { Reads one_digit result self.old self.new }
+        ensures small { IfSome result (λ d. d < 10) }
+    {
+        let digit = self.byte()?;
+        if !self.eat_class(Class::Digit) {
+            return None;
+        }
+        Some(digit - b'0')
     }
-    Some(u32::from(digit))
-}
 
-// Exactly two digits.
-pub fn parse_two_digits<T: Text>(text: &T, place: &mut usize) -> Option<u32>
-    ensures value { GivesValue (reads two_digits (codes (T.Text.cells text.now)) place.old) result place.old place.new }
-    ensures small { IfSome result (λ d. d < 100) }
-{
-    let mut trial = Trial::begin(place);
-    let tens = parse_digit(text, trial.place)?;
-    let ones = parse_digit(text, trial.place)?;
-    trial.accepted = true;
-    Some(tens * 10 + ones)
-}
+    // A run of digits.
+    fn digits<N: Number>(&mut self) -> N
+        ensures took { Skips (any digit) self.old self.new }
+        ensures value { result ≡ N.of_value (value (between self.old.text self.old.place self.new.place)) }
+    {
+        let mut n = N::zero();
+        while let Some(digit) = self.parse_digit() {
+            n = n.more(digit);
+        }
+        n
+    }
 
-// Exactly four digits.
-pub fn parse_four_digits<T: Text>(text: &T, place: &mut usize) -> Option<u32>
-    ensures { GivesValue (reads four_digits (codes (T.Text.cells text.now)) place.old) result place.old place.new }
-{
-    let mut trial = Trial::begin(place);
-    let hundreds = parse_two_digits(text, trial.place)?;
-    let ones = parse_two_digits(text, trial.place)?;
-    trial.accepted = true;
-    Some(hundreds * 100 + ones)
+    // A run of digits, of one at least.
+    pub fn parse_number<N: Number>(&mut self) -> Option<N>
+        ensures { ReadsDigits N.of_value result self.old self.new }
+    {
+        if !self.peek(Class::Digit) {
+            return None;
+        }
+        Some(self.digits())
+    }
+
+    pub fn parse_u16(&mut self) -> Option<u16>
+        ensures { Reads counted result self.old self.new }
+    {
+        self.parse_number()
+    }
+
+    pub fn parse_u32(&mut self) -> Option<u32>
+        ensures { Reads calendared result self.old self.new }
+    {
+        self.parse_number()
+    }
+
+    // Exactly two digits.
+    pub fn parse_two_digits(&mut self) -> Option<u32>
+        ensures value { Reads two_digits result self.old self.new }
+        ensures small { IfSome result (λ d. d < 100) }
+    {
+        let mut trial = Trial::begin(self);
+        let tens = trial.cursor.parse_digit()?;
+        let ones = trial.cursor.parse_digit()?;
+        trial.accepted = true;
+        Some(u32::from(tens * 10 + ones))
+    }
+
+    // Exactly four digits.
+    pub fn parse_four_digits(&mut self) -> Option<u32>
+        ensures { Reads four_digits result self.old self.new }
+    {
+        let mut trial = Trial::begin(self);
+        let hundreds = trial.cursor.parse_two_digits()?;
+        let ones = trial.cursor.parse_two_digits()?;
+        trial.accepted = true;
+        Some(hundreds * 100 + ones)
+    }
 }

@@ -1,37 +1,42 @@
-// A trial of a form: its end puts the place back where the form began, unless the form was accepted.
+// A trial of a form: its end puts the cursor back where the form began, unless the form was accepted.
 ghost use Rattle.std.specs.Prelude.{◌≡◌, false, if◌then◌else◌};
 
-pub struct Trial<'a> {
-    pub place: &'a mut usize,
+use crate::cursor::Cursor;
+use texts::text::Text;
+
+pub struct Trial<'a, T: Text> {
+    pub cursor: &'a mut Cursor<T>,
     start: usize,
     pub accepted: bool,
 }
 
-impl Drop for Trial<'_> {
+impl<T: Text> Drop for Trial<'_, T> {
     fn drop(self)
-        ensures { self.exit.0.now ≡ (if self.entry.accepted then self.entry.place.now else self.entry.start) }
+        ensures text { self.exit.0.now.text ≡ self.entry.cursor.now.text }
+        ensures place { self.exit.0.now.place ≡ (if self.entry.accepted then self.entry.cursor.now.place else self.entry.start) }
     {
         if !self.accepted {
-            *self.place = self.start;
+            let start = self.start;
+            self.cursor.go_to(start);
         }
         let Trial {
-            place: _,
+            cursor: _,
             start: _,
             accepted: _,
         } = self;
     }
 }
 
-impl<'a> Trial<'a> {
-    pub fn begin(place: &'a mut usize) -> Trial<'a>
-        ensures here { result.place.now ≡ place.old }
-        ensures start { result.start ≡ place.old }
+impl<'a, T: Text> Trial<'a, T> {
+    pub fn begin(cursor: &'a mut Cursor<T>) -> Trial<'a, T>
+        ensures here { result.cursor.now ≡ cursor.old }
+        ensures start { result.start ≡ cursor.old.place }
         ensures open { result.accepted ≡ false }
-        ensures lent { result.place.ghost_name ≡ place.entry.ghost_name }
+        ensures lent { result.cursor.ghost_name ≡ cursor.entry.ghost_name }
     {
-        let start = *place;
+        let start = cursor.place();
         Trial {
-            place,
+            cursor,
             start,
             accepted: false,
         }

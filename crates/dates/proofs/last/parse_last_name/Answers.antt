@@ -1,9 +1,10 @@
 use Rattle.std.proofs.Common.{sym}
-use Rattle.texts.specs.Codes.{codes}
 use Rattle.grammar.specs.Tokens.{reserved}
 use Rattle.dates.proofs.Naming.{named_free}
 use Rattle.dates.proofs.last.parse_last_name.Goals as goal
 
 pub returns : goal.returns
 returns g c =
-    named_free reserved (codes (g.T.Text.cells c.args.text.now)) c.args.place.now c.parse_name.new.place c.parse_name.result (sym c.if-is_reserved.ensures) c.parse_name.ensures
+    let from = c.args.cursor.now in
+    let named = c.parse_name.ensures in
+    (named.0, named_free reserved from.text from.place c.parse_name.new.cursor.place c.parse_name.result (sym c.if-is_reserved.ensures) named.1)

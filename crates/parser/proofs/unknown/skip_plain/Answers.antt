@@ -1,27 +1,22 @@
-use Rattle.std.proofs.Common.{◌≡◌, ◌+◌, drop, Some, sym, refl, ap, ◌∙◌, arith}
-use Rattle.texts.specs.Codes.{codes}
-use Rattle.grammar.specs.Rule.{span}
+use Rattle.std.proofs.Common.{sym}
 use Rattle.grammar.specs.Tokens.{plain}
-use Rattle.scanner.proofs.Spans.{fits, run_stop}
+use Rattle.scanner.proofs.Runs.{run_on, run_ended, less_left}
 use Rattle.parser.proofs.Unknowns.{strode}
 use Rattle.parser.proofs.unknown.skip_plain.Goals as goal
 
-pub loop-place-init : goal.loop-place-init
-loop-place-init g c = refl
+pub loop-cursor-preserved : goal.loop-cursor-preserved
+loop-cursor-preserved g c =
+    let at = c.loop-cursor.cursor in
+    let to = c.take_stride.new.cursor in
+    let s = strode at.text at.place to.place (sym c.loop-cursor-test.ensures) c.take_stride.ensures.1 in
+    run_on plain c.args.cursor.now at to c.loop-cursor.invariant c.take_stride.ensures.0 s.rest
 
-pub loop-place-smaller : goal.loop-place-smaller
-loop-place-smaller g c =
-    let s = strode (codes (g.T.Text.cells c.args.text.now)) c.loop-place.place c.take_stride.new.place (sym c.loop-place-test.ensures) c.take_stride.ensures in
-    omega (arith, s.on, s.inside)
-
-pub loop-place-preserved : goal.loop-place-preserved
-loop-place-preserved g c =
-    let s = strode (codes (g.T.Text.cells c.args.text.now)) c.loop-place.place c.take_stride.new.place (sym c.loop-place-test.ensures) c.take_stride.ensures in
-    sym s.rest ∙ c.loop-place.invariant
+pub loop-cursor-smaller : goal.loop-cursor-smaller
+loop-cursor-smaller g c =
+    let at = c.loop-cursor.cursor in
+    let to = c.take_stride.new.cursor in
+    let s = strode at.text at.place to.place (sym c.loop-cursor-test.ensures) c.take_stride.ensures.1 in
+    less_left at to c.take_stride.ensures.0 s.inside s.on
 
 pub returns : goal.returns
-returns g c =
-    let t = codes (g.T.Text.cells c.args.text.now) in
-    let e : c.args.place.now + span (fits plain) (drop c.args.place.now t) ≡ c.loop-place.place =
-    omega (arith, run_stop plain t c.loop-place.place (sym c.loop-place-test.ensures), c.loop-place.invariant) in
-    ap Some e
+returns g c = run_ended plain c.args.cursor.now c.loop-cursor.cursor c.loop-cursor.invariant (sym c.loop-cursor-test.ensures)

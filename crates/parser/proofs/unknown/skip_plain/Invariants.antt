@@ -1,15 +1,10 @@
-use Rattle.std.proofs.Common.{◌≡◌, ◌+◌, ◌-◌, length, drop}
-use Rattle.texts.specs.Codes.{codes}
-use Rattle.grammar.specs.Rule.{span}
+use Rattle.std.proofs.Common.{◌-◌, length}
 use Rattle.grammar.specs.Tokens.{plain}
-use Rattle.scanner.proofs.Spans.{fits}
+use Rattle.scanner.proofs.Runs.{Running}
 use Rattle.parser.proofs.unknown.skip_plain.Given as goal
 
--- the run from here ends where the run from the start does
-abbrev pub invariant-loop-place : goal.invariant-loop-place
-invariant-loop-place g l =
-    let t = codes (g.T.Text.cells l.text) in
-    l.place + span (fits plain) (drop l.place t) ≡ l.initial.place + span (fits plain) (drop l.initial.place t)
+abbrev pub invariant-loop-cursor : goal.invariant-loop-cursor
+invariant-loop-cursor g l = Running plain l.initial.cursor l.cursor
 
-abbrev pub decreases-loop-place : goal.decreases-loop-place
-decreases-loop-place g l = length (codes (g.T.Text.cells l.text)) - l.place
+abbrev pub decreases-loop-cursor : goal.decreases-loop-cursor
+decreases-loop-cursor g l = length l.cursor.text - l.cursor.place

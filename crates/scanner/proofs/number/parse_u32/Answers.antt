@@ -1,9 +1,0 @@
-use Rattle.std.proofs.Common.{sym}
-use Rattle.texts.specs.Codes.{codes}
-use Rattle.grammar.specs.Decimal.{calendar}
-use Rattle.scanner.proofs.Digits.{read_digits}
-use Rattle.scanner.proofs.number.parse_u32.Goals as goal
-
-pub returns : goal.returns
-returns g c =
-    read_digits calendar (codes (g.T.Text.cells c.args.text.now)) c.args.place.now c.digits_u32.new.place c.digits_u32.result (sym c.if-not-peek.ensures) c.digits_u32.ensures.took c.digits_u32.ensures.value
