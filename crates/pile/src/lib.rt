@@ -2,12 +2,8 @@
 #![tactic(auto)]
 
 ghost use Rattle.std.specs.Result.{MatchResult};
-ghost use Rattle.texts.specs.Cells.{stored};
-ghost use Rattle.texts.specs.Trim.{trimmed};
-ghost use Rattle.chain.specs.Chains.{chained};
-ghost use Rattle.layers.specs.Covers.{covered};
-ghost use Rattle.layers.specs.Joins.{joined};
 ghost use Rattle.replay.specs.Law.{Replayed, Unread};
+ghost use Rattle.pile.specs.Pile.{piled};
 
 use chain::store::ChainStore;
 use layers::cover::Cover;
@@ -25,7 +21,7 @@ pub fn replay_pile(
     site: &[u8],
     exchanges: &mut [Exchange],
 ) -> Result<usize, Refusal>
-    ensures { MatchResult result (λ k. Replayed (trimmed (joined (covered (chained memory.now first)) (stored site.now))) exchanges.old exchanges.new k) (λ e. Unread (trimmed (joined (covered (chained memory.now first)) (stored site.now))) exchanges.old exchanges.new e) }
+    ensures { MatchResult result (Replayed (piled memory.now first site.now) exchanges.old exchanges.new) (Unread (piled memory.now first site.now) exchanges.old exchanges.new) }
 {
     let store = ChainStore::new(memory, first);
     let join = Join::new(Cover::new(store), ByteStore::new(site));

@@ -1,5 +1,6 @@
 pub mod BadCells
 pub mod Places
 pub mod Samples
-pub mod Sequences
 pub mod Stepping
+pub mod Querying
+pub mod Feeding

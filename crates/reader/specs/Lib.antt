@@ -1,4 +1,5 @@
 pub mod Refusals
+pub mod Standing
 pub mod Start
 pub mod Steps
 pub mod Utf8

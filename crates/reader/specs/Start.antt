@@ -1,18 +1,11 @@
 -- What is refused at start.
 use Rattle.std.specs.Prelude.{ℕ, ◌+◌, List, [], ◌∷◌, Some, None, Ok, Err, Option, Result}
-use Rattle.texts.specs.declared.cell.Fault.{Fault}
 use Rattle.texts.specs.declared.cell.Cell.{Cell}
 use Rattle.texts.specs.declared.cell.Cell.TheVariants.{Byte, Bad}
 use Rattle.texts.specs.Codes.{codes}
 use Rattle.reader.specs.declared.refusal.Refusal.{Refusal}
 use Rattle.reader.specs.declared.refusal.Refusal.TheVariants.{BadCell, IllFormed}
-use Rattle.reader.specs.declared.start.BadAt.{BadAt}
 use Rattle.reader.specs.Utf8.{ill_formed}
-
--- an answer to the question for a cell, with the place beside a fault
-abbrev pub placed : ℕ → Result (Option ℕ) Fault → Result (Option ℕ) BadAt
-placed place (Ok found) = Ok found
-placed place (Err f) = Err (record { place = place; fault = f })
 
 -- the lowest bad cell of cells of which the first stands at a place, refused
 abbrev pub bad_from : List Cell → ℕ → Result (Unit {0}) Refusal

@@ -1,16 +1,11 @@
 -- The queries of a text by their number, and what a step of a reader answers.
-use Rattle.std.specs.Prelude.{ℕ, zero, suc, ◌+◌, max, Bool, false, cond, List, length, Some, None, Ok, Err, Result, nat_le}
+use Rattle.std.specs.Prelude.{ℕ, zero, suc, ◌+◌, max, Bool, false, cond, List, length, Some, None, Ok, Err, Option, Result, nat_le}
 use Rattle.grammar.specs.Form.{Outcome, reads}
 use Rattle.grammar.specs.Forms.{querying, missed, separating, unseparated}
 use Rattle.grammar.specs.declared.query.QueryAtom.{QueryAtom}
 use Rattle.grammar.specs.declared.query.SingleQuery.{SingleQuery}
-use Rattle.texts.specs.declared.cell.Cell.{Cell}
-use Rattle.texts.specs.Codes.{codes}
-use Rattle.texts.specs.Trim.{between}
 use Rattle.reader.specs.declared.refusal.Refusal.{Refusal}
 use Rattle.reader.specs.declared.refusal.Refusal.TheVariants.{NoReading, AtStart}
-use Rattle.reader.specs.declared.step.Step.{Step}
-use Rattle.reader.specs.declared.step.Step.TheVariants.{Given, End}
 
 -- a query that starts at s, with its raw, or the place where it is missed
 abbrev pub found : Bool → ℕ → ℕ → Outcome (Bool × QueryAtom) → Result SingleQuery ℕ
@@ -37,29 +32,25 @@ query_k t zero p = at_first (query_at t false p)
 query_k t (suc k) p = behind t p (reads separating t p)
 
 -- a query as the answer of a step, or its absence as a refusal
-abbrev pub answered : Result SingleQuery ℕ → Result Step Refusal
-answered (Ok q) = Ok (Given q)
+abbrev pub answered : Result SingleQuery ℕ → Result (Option SingleQuery) Refusal
+answered (Ok q) = Ok (Some q)
 answered (Err m) = Err (NoReading m)
 
--- what a step answers behind k queries, the last of which ends at p: "end" where no code is left
-abbrev pub stepped : List ℕ → ℕ → ℕ → Result Step Refusal
-stepped t k p = cond (nat_le (length t) p) (Ok End) (answered (query_k t k p))
+-- what a step answers behind k queries, the last of which ends at p: no query where no code is left
+abbrev pub stepped : List ℕ → ℕ → ℕ → Result (Option SingleQuery) Refusal
+stepped t k p = cond (nat_le (length t) p) (Ok None) (answered (query_k t k p))
 
 -- the place behind the answer of a step that began at p
-abbrev pub place_after : Result Step Refusal → ℕ → ℕ
-place_after (Ok (Given q)) p = q.raw.end
-place_after (Ok End) p = p
+abbrev pub place_after : Result (Option SingleQuery) Refusal → ℕ → ℕ
+place_after (Ok (Some q)) p = q.raw.end
+place_after (Ok None) p = p
 place_after (Err r) p = p
 
 -- the number of queries behind the answer of a step that began at k
-abbrev pub count_after : Result Step Refusal → ℕ → ℕ
-count_after (Ok (Given q)) k = k + 1
-count_after (Ok End) k = k
+abbrev pub count_after : Result (Option SingleQuery) Refusal → ℕ → ℕ
+count_after (Ok (Some q)) k = k + 1
+count_after (Ok None) k = k
 count_after (Err r) k = k
-
--- the codes of the cells from one place up to another
-abbrev pub shown : ℕ → ℕ → List Cell → List ℕ
-shown start end cells = codes (between start end cells)
 
 -- the end of raw k − 1, or 0; where a query is missing it stays at the one before
 abbrev pub place_of : List ℕ → ℕ → ℕ

@@ -1,13 +1,16 @@
 // The reader: it stands behind k queries of the trim of a text.
-ghost use Rattle.std.specs.Prelude.{◌≡◌, ℕ, ◌-◌, ◌≤◌, Ok, Err, MatchResult};
-ghost use Rattle.texts.specs.Codes.{codes};
+ghost use Rattle.std.specs.Prelude.{◌≡◌, ℕ, ◌-◌, Ok, Err, MatchResult};
+ghost use Rattle.texts.specs.Codes as cell;
 ghost use Rattle.texts.specs.Trim.{trimmed};
+ghost use Rattle.reader.specs.Standing.{Within};
 ghost use Rattle.reader.specs.Start.{start_refusal};
-ghost use Rattle.reader.specs.Steps.{shown, stepped, count_after, place_after, backed, place_back};
+ghost use Rattle.reader.specs.Steps.{stepped, count_after, place_after, backed, place_back};
 
 use crate::refusal::Refusal;
 use crate::start::accepts;
-use crate::step::{Step, next_query, place_of};
+use crate::step::{next_query, place_of};
+use grammar::query::SingleQuery;
+use std::marker::Model;
 use texts::text::Text;
 use texts::trim::Trim;
 
@@ -16,14 +19,22 @@ pub struct Reader<'a, T: Text> {
     text: Trim<&'a T>,
     k: usize,
     place: usize,
-    ghost within: { k ≤ place },
-    ghost short: { place ≤ 16384 },
+}
+
+impl<'a, T: Text> Model for Reader<'a, T> {
+    ghost use Rattle.reader.specs.Standing.{Standing, shown, Within};
+
+    ghost Value = { Standing };
+
+    ghost view = { λ r. record { codes = shown r.text.start r.text.end (T.Text.cells r.text.inner.now); k = r.k; place = r.place } };
+
+    ghost invariant = { λ r. Within r.k r.place };
 }
 
 impl<'a, T: Text> Reader<'a, T> {
     // Refuses a bad cell, then ill-formed UTF-8; else stands before the first query.
     pub fn start(text: &'a T) -> Result<Reader<'a, T>, Refusal>
-        ensures { MatchResult result (λ s. (start_refusal (T.Text.cells text.now) ≡ Ok tt) × (shown s.text.start s.text.end (T.Text.cells s.text.inner.now) ≡ codes (trimmed (T.Text.cells text.now))) × (s.k ≡ 0) × (s.place ≡ 0)) (λ e. start_refusal (T.Text.cells text.now) ≡ Err e) }
+        ensures { MatchResult result (λ s. (start_refusal (T.Text.cells text.now) ≡ Ok tt) × (s.codes ≡ cell.codes (trimmed (T.Text.cells text.now))) × (s.k ≡ 0) × (s.place ≡ 0)) (λ e. start_refusal (T.Text.cells text.now) ≡ Err e) }
     {
         accepts(text)?;
         Ok(Reader {
@@ -33,32 +44,31 @@ impl<'a, T: Text> Reader<'a, T> {
         })
     }
 
-    // The next query, or "end" behind the last; a refusal leaves the reader as it was.
-    pub fn step(&mut self) -> Result<Step, Refusal>
-        ensures same { self.new.text ≡ self.old.text }
-        ensures value { result ≡ stepped (shown self.old.text.start self.old.text.end (T.Text.cells self.old.text.inner.now)) self.old.k self.old.place }
+    // The next query, or none behind the last; a refusal leaves the reader as it was.
+    pub fn step(&mut self) -> Result<Option<SingleQuery>, Refusal>
+        ensures same { self.new.codes ≡ self.old.codes }
+        ensures value { result ≡ stepped self.old.codes self.old.k self.old.place }
         ensures count { self.new.k ≡ count_after result self.old.k }
         ensures after { self.new.place ≡ place_after result self.old.place }
+        ensures within { Within self.new.k self.new.place }
     {
         if self.place >= self.text.len() {
-            return Ok(Step::End);
+            return Ok(None);
         }
-        match next_query(&self.text, self.k, self.place) {
-            Ok(query) => {
-                self.k += 1;
-                self.place = query.raw.end;
-                Ok(Step::Given(query))
-            }
-            Err(place) => Err(Refusal::NoReading { place }),
-        }
+        let found = next_query(&self.text, self.k, self.place);
+        let query = found.map_err(|place| Refusal::NoReading { place })?;
+        self.k += 1;
+        self.place = query.raw.end;
+        Ok(Some(query))
     }
 
     // One query back, found from the start again; at the start a refusal, which leaves the reader as it was.
     pub fn step_back(&mut self) -> Result<(), Refusal>
-        ensures same { self.new.text ≡ self.old.text }
+        ensures same { self.new.codes ≡ self.old.codes }
         ensures value { result ≡ backed self.old.k }
         ensures count { self.new.k ≡ self.old.k - 1 }
-        ensures after { self.new.place ≡ place_back (shown self.old.text.start self.old.text.end (T.Text.cells self.old.text.inner.now)) self.old.k self.old.place }
+        ensures after { self.new.place ≡ place_back self.old.codes self.old.k self.old.place }
+        ensures within { Within self.new.k self.new.place }
     {
         if self.k == 0 {
             return Err(Refusal::AtStart);
@@ -73,7 +83,7 @@ impl<'a, T: Text> Reader<'a, T> {
 
     // Stands before the first query again.
     pub fn start_over(&mut self)
-        ensures same { self.new.text ≡ self.old.text }
+        ensures same { self.new.codes ≡ self.old.codes }
         ensures count { self.new.k ≡ 0 }
         ensures after { self.new.place ≡ 0 }
     {
@@ -83,14 +93,16 @@ impl<'a, T: Text> Reader<'a, T> {
 
     // How many queries stand before the place.
     pub fn count(&self) -> usize
-        ensures { result ≡ self.now.k }
+        ensures value { result ≡ self.now.k }
+        ensures within { Within self.now.k self.now.place }
     {
         self.k
     }
 
     // The end of the last raw given, or 0.
     pub fn place(&self) -> usize
-        ensures { result ≡ self.now.place }
+        ensures value { result ≡ self.now.place }
+        ensures within { Within self.now.k self.now.place }
     {
         self.place
     }

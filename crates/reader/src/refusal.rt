@@ -14,13 +14,14 @@ pub enum Refusal {
 }
 
 impl Refusal {
+    // The documented numbers: C and the programs tell them.
     pub fn number(&self) -> u8
         ensures { result ≡ slice_index (told self.now) 0 }
     {
         match *self {
-            Refusal::BadCell { place: _, fault: _ } => 1,
-            Refusal::IllFormed { place: _ } => 2,
-            Refusal::NoReading { place: _ } => 3,
+            Refusal::BadCell { .. } => 1,
+            Refusal::IllFormed { .. } => 2,
+            Refusal::NoReading { .. } => 3,
             Refusal::AtStart => 5,
         }
     }
@@ -29,9 +30,9 @@ impl Refusal {
         ensures { result ≡ slice_index (told self.now) 1 }
     {
         match *self {
-            Refusal::BadCell { place, fault: _ } => place,
-            Refusal::IllFormed { place } => place,
-            Refusal::NoReading { place } => place,
+            Refusal::BadCell { place, .. }
+            | Refusal::IllFormed { place }
+            | Refusal::NoReading { place } => place,
             Refusal::AtStart => 0,
         }
     }

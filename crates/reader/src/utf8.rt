@@ -1,14 +1,13 @@
 // Well-formed UTF-8 after Unicode's Table 3-7: a state and the next byte say what may follow.
-ghost use Rattle.std.specs.Prelude.{◌≡◌, true, false, MatchOption};
-ghost use Rattle.reader.specs.declared.utf8.State.TheVariants.{Start};
-ghost use Rattle.reader.specs.Utf8.{step_of, is_start, ill_formed};
-ghost use Rattle.texts.specs.Codes.{codes};
+ghost use Rattle.std.specs.Prelude.{◌≡◌, Some, None, MatchOption};
+ghost use Rattle.reader.specs.Utf8.{step_of, ill_formed};
+ghost use Rattle.texts.specs.Codes.{codes, byte_code};
 
-use texts::code::code_at;
+use texts::code::byte_at;
 use texts::text::Text;
 
 // How many bytes a sequence still wants; after four leads the next byte is bound more narrowly.
-#[derive(Clone, Copy)]
+#[derive(Clone, Copy, PartialEq)]
 pub enum State {
     Start,
     Last,
@@ -20,17 +19,12 @@ pub enum State {
     AfterF4,
 }
 
-#[derive(Clone, Copy)]
-struct Checker {
-    state: State,
-}
-
-impl Checker {
-    // Whether the code may stand here; where it may not, the state stays.
-    fn feed(&mut self, code: u16) -> bool
-        ensures { MatchOption (step_of self.old.state code) ((result ≡ false) × (self.new.state ≡ self.old.state)) (λ s. (result ≡ true) × (self.new.state ≡ s)) }
+impl State {
+    // Goes on to the state behind a byte; none where the byte may not stand here, and then the state stays.
+    fn feed(&mut self, byte: Option<u8>) -> Option<()>
+        ensures { MatchOption (step_of self.old (byte_code byte)) ((result ≡ None) × (self.new ≡ self.old)) (λ s. (result ≡ Some tt) × (self.new ≡ s)) }
     {
-        self.state = match (self.state, code) {
+        *self = match (*self, byte?) {
             (State::Start, 0x00..=0x7F) => State::Start,
             (State::Start, 0xC2..=0xDF) => State::Last,
             (State::Start, 0xE0) => State::AfterE0,
@@ -46,41 +40,25 @@ impl Checker {
             (State::AfterED, 0x80..=0x9F) => State::Last,
             (State::AfterF0, 0x90..=0xBF) => State::Two,
             (State::AfterF4, 0x80..=0x8F) => State::Two,
-            _ => return false,
+            _ => return None,
         };
-        true
-    }
-
-    fn is_start(&self) -> bool
-        ensures { result ≡ is_start self.now.state }
-    {
-        match self.state {
-            State::Start => true,
-            _ => false,
-        }
+        Some(())
     }
 }
 
-// The place of the first byte of the first ill-formed sequence.
+// The place of the first byte of the first ill-formed sequence. A text is asked by place, and has no slice to go through.
 pub fn first_ill_formed<T: Text>(text: &T) -> Option<usize>
     ensures { result ≡ ill_formed (codes (T.Text.cells text.now)) }
 {
-    let mut checker = Checker {
-        state: State::Start,
-    };
+    let mut state = State::Start;
     let mut begun = 0;
     for here in 0..text.len() {
-        let code = code_at(text, here);
-        if !checker.feed(code) {
+        if state.feed(byte_at(text, here)).is_none() {
             return Some(begun);
         }
-        if checker.is_start() {
+        if state == State::Start {
             begun = here + 1;
         }
     }
-    if checker.is_start() {
-        None
-    } else {
-        Some(begun)
-    }
+    (state != State::Start).then_some(begun)
 }

@@ -25,7 +25,7 @@ bytes_join (Bad f ∷ a) b h k = absurd h
 
 -- nothing that is there is none
 some_none : {X : Type 0} (x : X) → Some x ≡ None → ⊥
-some_none x h = let z : ◌≡◌ {A = ℕ} 0 1 = cc in omega arith
+some_none x h = cc
 
 end_any : (x : Bool) (b c : ℕ) → cond x None (Some b) ≡ None → cond x None (Some c) ≡ None
 end_any true b c h = refl

@@ -1,12 +1,10 @@
 -- What each call makes of a reader that stands, and one call more.
-use Rattle.std.proofs.Common.{◌≡◌, ℕ, zero, suc, ◌+◌, ◌-◌, ◌<◌, ◌≤◌, max, leb, List, [], ◌∷◌, ◌++◌, map, length, get_or, take, set, Ok, Err, Result, sym, refl, ap, ◌∙◌, subst, add-one, arith}
+use Rattle.std.proofs.Common.{◌≡◌, ℕ, zero, suc, ◌+◌, ◌-◌, ◌<◌, ◌≤◌, max, leb, List, [], ◌∷◌, ◌++◌, map, length, get_or, take, set, None, Ok, Err, Option, Result, sym, refl, ap, ◌∙◌, subst, add-one, arith}
 use Rattle.std.proofs.lemmas.Bool.{cond_both, leb-true, leb-false}
 use Rattle.std.proofs.lemmas.List.{take_more_set}
 use Rattle.grammar.specs.declared.query.SingleQuery.{SingleQuery}
 use Rattle.reader.specs.declared.refusal.Refusal.{Refusal}
 use Rattle.reader.specs.declared.refusal.Refusal.TheVariants.{AtStart}
-use Rattle.reader.specs.declared.step.Step as the_step
-use Rattle.reader.specs.declared.step.Step.TheVariants as outcome
 use Rattle.reader.specs.Steps.{query_k, answered, stepped, place_after, count_after, place_of, backed, place_back}
 use Rattle.reader.proofs.Stepping.{next_end}
 use Rattle.reader.proofs.Places.{place_fits, place_next}
@@ -29,7 +27,7 @@ abbrev Makes : List ℕ → ℕ → Call → Answer → ℕ → ℕ → Type 0
 Makes t k c r m q = Does t k c r m × Stands t m q
 
 -- a step that gives r
-abbrev After : List ℕ → ℕ → Result the_step.Step Refusal → Type 0
+abbrev After : List ℕ → ℕ → Result (Option SingleQuery) Refusal → Type 0
 After t k r = Makes t k Step (step_told r) (count_after r k) (place_after r (place_of t k))
 
 answered_makes : (t : List ℕ) (k : ℕ) → Begun t k → place_of t k < length t → (x : Result SingleQuery ℕ) → query_k t k (place_of t k) ≡ x → After t k (answered x)
@@ -40,11 +38,11 @@ answered_makes t k b l (Err m) h = (lacks l h, (refl, b))
 
 stepped_makes : (t : List ℕ) (k : ℕ) → Begun t k → After t k (stepped t k (place_of t k))
 stepped_makes t k b =
-    cond_both (leb (length t) (place_of t k)) (Ok outcome.End) (answered (query_k t k (place_of t k))) (After t k)
+    cond_both (leb (length t) (place_of t k)) (Ok None) (answered (query_k t k (place_of t k))) (After t k)
     (λ e. (ends (omega (arith, place_fits t k, leb-true (length t) (place_of t k) e)), (refl, b)))
     (λ e. answered_makes t k b (omega (arith, leb-false (length t) (place_of t k) e)) (query_k t k (place_of t k)) refl)
 
-makes_step : (t : List ℕ) (k p : ℕ) (r : Result the_step.Step Refusal) (m q : ℕ) → Stands t k p → r ≡ stepped t k p → m ≡ count_after r k → q ≡ place_after r p → Makes t k Step (step_told r) m q
+makes_step : (t : List ℕ) (k p : ℕ) (r : Result (Option SingleQuery) Refusal) (m q : ℕ) → Stands t k p → r ≡ stepped t k p → m ≡ count_after r k → q ≡ place_after r p → Makes t k Step (step_told r) m q
 makes_step t k p r m q st er em eq =
     let same : stepped t k (place_of t k) ≡ r = ap (stepped t k) (sym st.0) ∙ sym er in
     let at : After t k r = subst (After t k) same (stepped_makes t k st.1) in
@@ -68,7 +66,7 @@ makes_place t k p r st er = (tells (sym (er ∙ st.0)), st)
 asked : {t : List ℕ} {k p : ℕ} {c d : Call} {r : Answer} {m q : ℕ} → d ≡ c → (Stands t k p → Makes t k c r m q) → Asked t k p d r m q
 asked {t} {k} {p} {c} {d} {r} {m} {q} e h = record { does = λ st. subst (λ x. Does t k x r m) (sym e) (h st).0; stands = λ st. (h st).1 }
 
-pub asked_step : {t : List ℕ} {k p : ℕ} {c : Call} {r : Result the_step.Step Refusal} {a : Answer} {m q : ℕ} → c ≡ Step → a ≡ step_told r → r ≡ stepped t k p → m ≡ count_after r k → q ≡ place_after r p → Asked t k p c a m q
+pub asked_step : {t : List ℕ} {k p : ℕ} {c : Call} {r : Result (Option SingleQuery) Refusal} {a : Answer} {m q : ℕ} → c ≡ Step → a ≡ step_told r → r ≡ stepped t k p → m ≡ count_after r k → q ≡ place_after r p → Asked t k p c a m q
 asked_step {t} {k} {p} {c} {r} {a} {m} {q} ec ea er em eq =
     asked ec (λ st. subst (λ x. Makes t k Step x m q) (sym ea) (makes_step t k p r m q st er em eq))
 
@@ -81,6 +79,9 @@ asked_over {t} {k} {p} {c} {m} {q} ec em eq = asked ec (λ st. makes_over t k m 
 
 pub asked_place : {t : List ℕ} {k p : ℕ} {c : Call} {r : ℕ} → c ≡ Place → r ≡ p → Asked t k p c (At r) k p
 asked_place {t} {k} {p} {c} {r} ec er = asked ec (λ st. makes_place t k p r st er)
+
+-- what each call makes of its reader
+pub ruleset asked_call = (asked_step, asked_back, asked_over, asked_place)
 
 -- one exchange more
 pub runs_more : {t : List ℕ} {k m n : ℕ} {xs : List Exchange} {x : Exchange} → Runs t k xs m → Does t m x.call x.answer n → Runs t k (xs ++ x ∷ []) n

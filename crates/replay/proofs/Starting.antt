@@ -1,5 +1,5 @@
 -- A text is accepted at start exactly when a reading can start on it.
-use Rattle.std.proofs.Common.{◌≡◌, ℕ, ◌+◌, List, [], ◌∷◌, Some, None, Ok, Err, Option, Result, refl, arith}
+use Rattle.std.proofs.Common.{◌≡◌, ℕ, ◌+◌, List, [], ◌∷◌, Some, None, Ok, Err, Option, Result, refl}
 use Rattle.texts.specs.declared.cell.Cell.{Cell}
 use Rattle.texts.specs.declared.cell.Cell.TheVariants.{Byte, Bad}
 use Rattle.texts.specs.Codes.{codes}
@@ -16,15 +16,15 @@ bytes_pass (Bad fault ∷ cells) place h = absurd h
 passed_bytes : (cells : List Cell) (place : ℕ) → bad_from cells place ≡ Ok tt → AllBytes cells
 passed_bytes [] place h = tt
 passed_bytes (Byte b ∷ cells) place h = passed_bytes cells (place + 1) h
-passed_bytes (Bad fault ∷ cells) place h = absurd (let z : ◌≡◌ {A = ℕ} 0 1 = cc in omega arith)
+passed_bytes (Bad fault ∷ cells) place h = absurd cc
 
 both_pass : (a b : Result (Unit {0}) Refusal) → and_then a b ≡ Ok tt → (a ≡ Ok tt) × (b ≡ Ok tt)
 both_pass (Ok x) b h = (refl, h)
-both_pass (Err r) b h = absurd (let z : ◌≡◌ {A = ℕ} 0 1 = cc in omega arith)
+both_pass (Err r) b h = absurd cc
 
 none_ill : (o : Option ℕ) → ill_refusal o ≡ Ok tt → o ≡ None
 none_ill None h = refl
-none_ill (Some place) h = absurd (let z : ◌≡◌ {A = ℕ} 0 1 = cc in omega arith)
+none_ill (Some place) h = absurd cc
 
 pub accepted_readable : (cells : List Cell) → start_refusal cells ≡ Ok tt → Readable cells
 accepted_readable cells h =
@@ -38,4 +38,4 @@ pub refused_unreadable : (cells : List Cell) (e : Refusal) → start_refusal cel
 refused_unreadable cells e h r = clash (start_refusal cells) (readable_accepted cells r) h
   where
     clash : (x : Result (Unit {0}) Refusal) → x ≡ Ok tt → x ≡ Err e → ⊥
-    clash x a b = let z : ◌≡◌ {A = ℕ} 0 1 = cc in omega arith
+    clash x a b = cc

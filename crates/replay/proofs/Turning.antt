@@ -1,13 +1,13 @@
 -- One turn of a reading is one query of the reader.
-use Rattle.std.proofs.Common.{◌≡◌, ℕ, zero, suc, ◌+◌, ◌-◌, ◌<◌, ◌≤◌, Bool, true, false, List, [], ◌∷◌, ◌++◌, length, drop, Some, None, Ok, Err, Option, Result, sym, refl, ap, ◌∙◌, subst, arith, length-append, length-drop, length-take}
-use Rattle.grammar.specs.declared.query.QueryAtom.{QueryAtom}
+use Rattle.std.proofs.Common.{◌≡◌, ℕ, zero, suc, ◌+◌, ◌-◌, ◌<◌, ◌≤◌, Bool, true, false, List, [], ◌∷◌, ◌++◌, length, drop, Some, None, Ok, Option, sym, refl, ap, ◌∙◌, subst, arith, length-append, length-drop, length-take}
 use Rattle.grammar.specs.declared.query.SingleQuery.{SingleQuery}
-use Rattle.grammar.specs.Form.{query, Outcome, between, reads}
+use Rattle.grammar.specs.Form.{query, between, reads}
 use Rattle.grammar.specs.Forms.{querying, missed, separating}
 use Rattle.grammar.specs.Along.{queries}
 use Rattle.grammar.specs.Readings.{Between, Turns, spelling}
 use Rattle.grammar.proofs.Queries.{query_fits, separator_fits}
 use Rattle.reader.specs.Steps.{found, query_at, at_first, behind, query_k}
+use Rattle.reader.proofs.Stepping.{made, found_ok, first_ok, behind_ok}
 use Rattle.replay.specs.Queries.{QueryTurn, joined, query_of, queries_of}
 
 -- whether behind k queries a separator comes first
@@ -37,10 +37,6 @@ turn_long u us b t p q l h =
     let e : h.0 + length u.raw ≡ h.1 = ap (λ x. h.0 + length x) h.5 ∙ between_long t h.0 h.1 (omega arith) w.2 in
     (sym s, omega (arith, s, e))
 
--- a query from s up to e, as it is found
-abbrev made : Bool → ℕ → ℕ → Bool × QueryAtom → SingleQuery
-made and s e v = record { raw = record { start = s; end = e }; atom = v.1; negated = v.0; is_and = and }
-
 made_turn : (and : Bool) (s e p : ℕ) (u : QueryTurn) → and ≡ joined u.link → s ≡ p + length u.sep → e ≡ p + length u.sep + length u.raw → made and s e u.value ≡ query_of p u
 made_turn and s e p u a b c = λ i. record { raw = record { start = b i; end = c i }; atom = u.value.1; negated = u.value.0; is_and = a i }
 
@@ -60,22 +56,6 @@ turn_query t (suc k) p q u us l h =
 -- a turn at p that is the query q
 abbrev pub TurnOf : List ℕ → ℕ → ℕ → SingleQuery → Type 0
 TurnOf t k p q = (u : QueryTurn) × Turns queries (begun k) t p (u ∷ []) q.raw.end × (query_of p u ≡ q)
-
-abbrev ok_or : SingleQuery → Result SingleQuery ℕ → SingleQuery
-ok_or d (Ok q) = q
-ok_or d (Err m) = d
-
-found_ok : (and : Bool) (s m : ℕ) (o : Outcome (Bool × QueryAtom)) (q : SingleQuery) → found and s m o ≡ Ok q → (v : Bool × QueryAtom) × (e : ℕ) × (o ≡ Some (v, e)) × (made and s e v ≡ q)
-found_ok and s m None q h = absurd (let z : ◌≡◌ {A = ℕ} 0 1 = cc in omega arith)
-found_ok and s m (Some x) q h = (x.0, x.1, refl, ap (ok_or q) h)
-
-first_ok : (r : Result SingleQuery ℕ) (q : SingleQuery) → at_first r ≡ Ok q → r ≡ Ok q
-first_ok (Ok p) q h = h
-first_ok (Err m) q h = absurd (let z : ◌≡◌ {A = ℕ} 0 1 = cc in omega arith)
-
-behind_ok : (t : List ℕ) (p : ℕ) (o : Outcome Bool) (q : SingleQuery) → behind t p o ≡ Ok q → (and : Bool) × (m : ℕ) × (o ≡ Some (and, m)) × (query_at t and m ≡ Ok q)
-behind_ok t p None q h = absurd (let z : ◌≡◌ {A = ℕ} 0 1 = cc in omega arith)
-behind_ok t p (Some x) q h = (x.0, x.1, refl, h)
 
 -- the turn of a query that is found at m behind p
 turn_of : (t : List ℕ) (k p m : ℕ) (link : Option Bool) (q : SingleQuery) → p ≤ length t → Between queries (begun k) t p link m → query_at t (joined link) m ≡ Ok q → TurnOf t k p q

@@ -1,6 +1,7 @@
 // Calls on a reader of a small text.
 use crate::calls::{Answer, Call, Exchange};
 use crate::replay::replay;
+use reader::refusal::Refusal;
 use std::test::Fail;
 use texts::store::ByteStore;
 
@@ -11,16 +12,11 @@ fn asking(call: Call) -> Exchange {
     }
 }
 
-// A number for each kind of answer, and the place that it tells, if any.
-fn kind(answer: Answer) -> (u8, usize) {
+// Where the raw of a query that was given ends.
+fn given_end(answer: Answer) -> Option<usize> {
     match answer {
-        Answer::Given(query) => (1, query.raw.end),
-        Answer::End => (2, 0),
-        Answer::Refused(refusal) => (3, refusal.place()),
-        Answer::Moved => (4, 0),
-        Answer::Anew => (5, 0),
-        Answer::At(place) => (6, place),
-        Answer::Open => (7, 0),
+        Answer::Given(query) => Some(query.raw.end),
+        _ => None,
     }
 }
 
@@ -38,12 +34,12 @@ fn steps_and_back(rt: HostRuntime) -> Result<(), Fail> {
     ];
     let k = replay(&text, &mut exchanges)?;
     assert_eq!(rt; k, 0);
-    assert_eq!(rt; kind(exchanges[0].answer), (3, 0));
-    assert_eq!(rt; kind(exchanges[1].answer), (1, 4));
-    assert_eq!(rt; kind(exchanges[2].answer), (1, 14));
-    assert_eq!(rt; kind(exchanges[3].answer), (2, 0));
-    assert_eq!(rt; kind(exchanges[4].answer), (4, 0));
-    assert_eq!(rt; kind(exchanges[5].answer), (6, 4));
-    assert_eq!(rt; kind(exchanges[6].answer), (5, 0));
+    assert_eq!(rt; exchanges[0].answer, Answer::Refused(Refusal::AtStart));
+    assert_eq!(rt; given_end(exchanges[1].answer), Some(4));
+    assert_eq!(rt; given_end(exchanges[2].answer), Some(14));
+    assert_eq!(rt; exchanges[3].answer, Answer::End);
+    assert_eq!(rt; exchanges[4].answer, Answer::Moved);
+    assert_eq!(rt; exchanges[5].answer, Answer::At(4));
+    assert_eq!(rt; exchanges[6].answer, Answer::Anew);
     Ok(())
 }

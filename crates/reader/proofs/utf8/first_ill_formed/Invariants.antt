@@ -7,4 +7,4 @@ use Rattle.reader.proofs.utf8.first_ill_formed.Given as goal
 abbrev pub invariant-loop-here : goal.invariant-loop-here
 invariant-loop-here g l =
     ill_formed (codes (g.T.Text.cells l.text))
-    ≡ ill_from (drop l.here (codes (g.T.Text.cells l.text))) l.checker.state l.begun l.here
+    ≡ ill_from (drop l.here (codes (g.T.Text.cells l.text))) l.state l.begun l.here

@@ -1,16 +1,15 @@
 use Rattle.std.proofs.Common.{◌≡◌, map, take}
 use Rattle.texts.specs.Codes.{codes}
 use Rattle.texts.specs.Trim.{trimmed}
-use Rattle.reader.specs.Steps.{shown}
 use Rattle.replay.specs.Calls.{call_of}
 use Rattle.replay.specs.Runs.{Runs, Stands}
 use Rattle.replay.proofs.replay.replay.Given as goal
 
-abbrev pub invariant-loop-i : goal.invariant-loop-i
-invariant-loop-i g l =
+abbrev pub invariant-loop-exchange : goal.invariant-loop-exchange
+invariant-loop-exchange g l =
     let t = codes (trimmed (g.T.Text.cells l.text)) in
     let r = l.reader in
-    (shown r.text.start r.text.end (g.T.Text.cells r.text.inner.now) ≡ t)
+    (r.codes ≡ t)
     × Stands t r.k r.place
-    × Runs t 0 (take l.i l.exchanges) r.k
+    × Runs t 0 (take l.exchange-index l.exchanges) r.k
     × (map call_of l.exchanges ≡ map call_of l.initial.exchanges)
