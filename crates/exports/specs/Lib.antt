@@ -1,2 +1,4 @@
+pub mod Keeps
 pub mod Layout
 pub mod Outcome
+pub mod Put

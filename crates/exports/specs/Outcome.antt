@@ -1,8 +1,6 @@
 -- How a reading ended, as four numbers: what a refusal tells, and zeros behind it.
-use Rattle.std.specs.Prelude.{◌≡◌, ℕ, ◌+◌, ◌*◌, ◌/◌, Bool, true, false, cond, List, [], ◌∷◌, ◌++◌, length, take, Ok, Err, Result, MatchResult, nat_lt}
+use Rattle.std.specs.Prelude.{◌≡◌, ℕ, ◌+◌, ◌*◌, ◌/◌, Bool, true, false, cond, List, [], ◌∷◌, ◌++◌, length, take, Some, None, Ok, Err, Option, Result, MatchResult, nat_lt}
 use Rattle.std.proofs.Math.Seq.{paste}
-use Rattle.reader.specs.declared.step.Step.{Step}
-use Rattle.reader.specs.declared.step.Step.TheVariants.{Given, End}
 use Rattle.reader.specs.declared.refusal.Refusal.{Refusal}
 use Rattle.grammar.specs.declared.query.SingleQuery.{SingleQuery}
 use Rattle.reader.specs.Refusals.{told}
@@ -17,9 +15,9 @@ abbrev pub outcome_of : Refusal → List ℕ
 outcome_of r = take 4 (told r ++ (0 ∷ 0 ∷ 0 ∷ 0 ∷ []))
 
 -- whether a step gave a query, so that another may follow
-abbrev pub goes_on : Result Step Refusal → Bool
-goes_on (Ok (Given q)) = true
-goes_on (Ok End) = false
+abbrev pub goes_on : Result (Option SingleQuery) Refusal → Bool
+goes_on (Ok (Some q)) = true
+goes_on (Ok None) = false
 goes_on (Err r) = false
 
 -- record n of the words lent, where there is room for a whole one
@@ -30,16 +28,10 @@ put_record words n ws = cond (nat_lt n (length words / 24)) (paste words (n * 24
 abbrev pub put_outcome : List ℕ → List ℕ → List ℕ
 put_outcome words ws = cond (nat_lt 3 (length words)) (paste words 0 ws 4) words
 
--- the records behind a step: one more where it gave a query
-abbrev pub recorded : Result Step Refusal → ℕ → List ℕ → List ℕ
-recorded (Ok (Given q)) n words = put_record words n (words_of q)
-recorded (Ok End) n words = words
-recorded (Err r) n words = words
-
 -- the outcome behind a step: told where it gave no query
-abbrev pub concluded : Result Step Refusal → List ℕ → List ℕ
-concluded (Ok (Given q)) words = words
-concluded (Ok End) words = put_outcome words (0 ∷ 0 ∷ 0 ∷ 0 ∷ [])
+abbrev pub concluded : Result (Option SingleQuery) Refusal → List ℕ → List ℕ
+concluded (Ok (Some q)) words = words
+concluded (Ok None) words = put_outcome words (0 ∷ 0 ∷ 0 ∷ 0 ∷ [])
 concluded (Err r) words = put_outcome words (outcome_of r)
 
 -- records of queries one behind another, the first of them number n
@@ -48,14 +40,14 @@ put_records words n [] = words
 put_records words n (q ∷ qs) = put_records (put_record words n (words_of q)) (n + 1) qs
 
 -- steps of a reader of t that has k queries before its place p give these queries, and the next answers last
-abbrev pub Through : List ℕ → ℕ → ℕ → List SingleQuery → Result Step Refusal → Type 0
+abbrev pub Through : List ℕ → ℕ → ℕ → List SingleQuery → Result (Option SingleQuery) Refusal → Type 0
 Through t k p [] last = (stepped t k p ≡ last) × (goes_on last ≡ false)
-Through t k p (q ∷ qs) last = (stepped t k p ≡ Ok (Given q)) × Through t (k + 1) q.raw.end qs last
+Through t k p (q ∷ qs) last = (stepped t k p ≡ Ok (Some q)) × Through t (k + 1) q.raw.end qs last
 
 -- what is written where a reader of t is stepped through to its end or a refusal
 pub record Read (t : List ℕ) (k p count : ℕ) (records after outcome ended : List ℕ) : Type 0 where
   pub queries : List SingleQuery
-  pub last : Result Step Refusal
+  pub last : Result (Option SingleQuery) Refusal
   pub steps : Through t k p queries last
   pub counted : count ≡ length queries
   pub written : after ≡ put_records records 0 queries

@@ -1,4 +1,4 @@
-// A query as 24 numbers.
+// A query as 24 numbers. Kinds, comparators and flags are numbers here, since C reads them as words.
 ghost use Rattle.std.specs.Prelude.{◌≡◌};
 ghost use Rattle.exports.specs.Layout.{plain_fields, range_fields, baseline_fields, stats_fields, comparator_number, name_fields, support_number, fields_of, words_of};
 
@@ -46,6 +46,7 @@ fn blank_fields(form: u64) -> Fields
     }
 }
 
+// C has numbers of its own for these, which are no discriminants of the grammar's.
 fn comparator_number(comparator: Comparator) -> u64
     ensures { result ≡ comparator_number comparator }
 {

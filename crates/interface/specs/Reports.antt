@@ -5,7 +5,7 @@ use Rattle.whole.specs.declared.refusal.WholeRefusal.{WholeRefusal}
 use Rattle.whole.specs.declared.refusal.WholeRefusal.TheVariants.{OfText, TooFewSlots, OutsideBytes}
 use Rattle.whole.specs.Whole.{Barred}
 use Rattle.words.specs.Outcome.{outcome_of, count_of}
-use Rattle.words.specs.Put.{put_slot}
+use Rattle.exports.specs.Put.{put_slot}
 
 -- the answer has this meaning, the count is its own, and the outcome's words tell it, where there is room for them
 pub record Reported (Means : Result ℕ WholeRefusal → Type 0) (count : ℕ) (outcome outcome' : List ℕ) : Type 0 where

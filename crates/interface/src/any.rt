@@ -8,14 +8,15 @@ ghost use Rattle.interface.specs.Reports.{Reported, BarredText};
 
 use texts::text::Text;
 use texts::trim::Trim;
+use whole::refusal::WholeRefusal;
 use whole::whole::count_queries;
 use words::fill::fill_text;
-use words::put::{report, report_text};
+use words::put::report;
 
 pub(crate) fn count<T: Text>(text: &T, outcome: &mut [u64]) -> u64
     ensures { Reported (λ a. MatchResult a (Counts (T.Text.cells text.now)) (BarredText (T.Text.cells text.now))) result outcome.old outcome.new }
 {
-    report_text(count_queries(text), outcome)
+    report(count_queries(text).map_err(WholeRefusal::from), outcome)
 }
 
 pub(crate) fn fill<T: Text>(

@@ -6,6 +6,7 @@ use Rattle.texts.specs.Codes.{codes}
 use Rattle.texts.specs.Trim.{trimmed}
 use Rattle.grammar.specs.declared.query.SingleQuery.{SingleQuery}
 use Rattle.reader.specs.declared.refusal.Refusal.{Refusal}
+use Rattle.reader.specs.Standing.{Standing}
 use Rattle.reader.specs.Start.{start_refusal}
 use Rattle.whole.specs.declared.refusal.WholeRefusal.{WholeRefusal}
 use Rattle.whole.specs.declared.refusal.WholeRefusal.TheVariants.{OfText}
@@ -16,8 +17,8 @@ use Rattle.whole.specs.declared.reading.Reading.{Reading}
 use Rattle.whole.specs.declared.walk.Walk.{Walk}
 use Rattle.whole.specs.Slots.{gaps}
 use Rattle.whole.specs.Takes.{Puts}
-use Rattle.whole.specs.Walks.{Walked, Walks, Counted}
-use Rattle.whole.specs.Whole.{unstarted, missed, Barred, Counts, enough, Filled, Why, barred, Refused}
+use Rattle.whole.specs.Walks.{Walked, ended_by, answer_of, Walks, Unstarted, Counted}
+use Rattle.whole.specs.Whole.{unstarted, missed, Barred, Counts, enough, Filled, Fits, Why, barred}
 use Rattle.whole.proofs.Putting.{Cleared, put_given}
 use Rattle.whole.proofs.Wholes.{stopped_ok, stopped_err, walked_one, reading_walk, walk_reading, queries_long, gaps_are, gaps_count}
 
@@ -60,35 +61,32 @@ enough_room slots between n h = split (leb n slots) refl h
     split false e h = absurd (both_ways false refl h)
 
 -- the first slots hold the reading, where the lists were cleared first
-pub filled : (cells : List Cell) (t : List ℕ) (n : ℕ) (u : Counts cells n) (w : Walk) (before cleared after : Reading) → t ≡ codes (trimmed cells) → enough (length before.queries.slots.now) (length before.separators.slots.now) n ≡ true → Cleared before cleared → Walks Puts t w cleared after → Filled cells before after n
-filled cells t n u w before cleared after et room z g =
+pub filled : (cells : List Cell) (slots between n : ℕ) (reader : Standing) (w : Walk) (before cleared after : Reading) → slots ≡ length before.queries.slots.now → between ≡ length before.separators.slots.now → Fits cells slots between reader n → Cleared before cleared → Walks Puts reader.codes w cleared after → Filled cells before after n
+filled cells slots between n reader w before cleared after es eb f z g =
+    let room : enough (length before.queries.slots.now) (length before.separators.slots.now) n ≡ true = (λ i. enough (sym es i) (sym eb i) n) ∙ f.room in
     let l = enough_room (length before.queries.slots.now) (length before.separators.slots.now) n room in
-    let x = walk_counts cells t n u g.given g.stop et g.walk in
+    let x = walk_counts cells reader.codes n f.counts g.given g.stop f.codes g.walk in
     let d : length (gaps g.given) ≡ n - 1 = gaps_count g.given ∙ ap (λ m. m - 1) x.2 in
     let h = put_given before cleared after g.given z g.taken in
     record {
-      counts = u;
+      counts = f.counts;
       fits = room;
       queries = h.queries.filled (omega (arith, l.0, x.2)) ∙ (λ i. x.0 i ++ drop (x.2 i) before.queries.slots.now);
       count = h.queries.count (omega (arith, l.0, x.2)) ∙ x.2;
-      separators = h.separators.filled (omega (arith, l.1, d)) ∙ (λ i. (ap gaps x.0 ∙ gaps_are u.turns) i ++ drop (d i) before.separators.slots.now);
+      separators = h.separators.filled (omega (arith, l.1, d)) ∙ (λ i. (ap gaps x.0 ∙ gaps_are f.counts.turns) i ++ drop (d i) before.separators.slots.now);
       less = h.separators.count (omega (arith, l.1, d)) ∙ d;
     }
 
--- every slot and both lists stay where a text is refused
-pub stayed : (cells : List Cell) (r : Reading) (e : WholeRefusal) → Why cells (length r.queries.slots.now) (length r.separators.slots.now) e → Refused cells r r e
-stayed cells r e w = record { why = w; queries = refl; count = refl; separators = refl; less = refl }
+-- a text that is refused for what it is, at the exit of a `?`
+pub refused : {V : Type 0} (P : V → Type 0) (cells : List Cell) (slots between : ℕ) (r : Result V WholeRefusal) (x : WholeRefusal) (e : Refusal) → r ≡ Err x → x ≡ OfText e → Barred cells e → MatchResult r P (Why cells slots between)
+refused P cells slots between r x e was is b = subst (λ y. MatchResult y P (Why cells slots between)) (sym (was ∙ ap Err is)) (barred b)
 
--- the same at the exit of a `?`
-pub passed_on : (cells : List Cell) (reading : Reading) (r : Result ℕ WholeRefusal) (x : WholeRefusal) (e : Refusal) → r ≡ Err x → x ≡ OfText e → Barred cells e → MatchResult r (Filled cells reading reading) (Refused cells reading reading)
-passed_on cells reading r x e was is b =
-    subst (λ y. MatchResult y (Filled cells reading reading) (Refused cells reading reading)) (sym (was ∙ ap Err is)) (stayed cells reading (OfText e) (barred b))
+-- what counting answers, from the start of a text on which a reading can start
+counted_from : (cells : List Cell) (t : List ℕ) (r : Result ℕ Refusal) → start_refusal cells ≡ Ok tt → t ≡ codes (trimmed cells) → Counted t r → MatchResult r (Counts cells) (Barred cells)
+counted_from cells t (Ok n) a et c = counted_reading cells t (Ok n) n a et c refl
+counted_from cells t (Err e) a et c = barred_short cells t (Err e) e a et c refl
 
--- what counting answers
-pub counted : (cells : List Cell) (t : List ℕ) (r : Result ℕ Refusal) → start_refusal cells ≡ Ok tt → t ≡ codes (trimmed cells) → Counted t r → MatchResult r (Counts cells) (Barred cells)
-counted cells t (Ok n) a et c = counted_reading cells t (Ok n) n a et c refl
-counted cells t (Err e) a et c = barred_short cells t (Err e) e a et c refl
-
--- what it answers at the exit of a `?`
-pub uncounted : (cells : List Cell) (r : Result ℕ Refusal) (x e : Refusal) → r ≡ Err x → x ≡ e → start_refusal cells ≡ Err e → MatchResult r (Counts cells) (Barred cells)
-uncounted cells r x e was is h = subst (λ y. MatchResult y (Counts cells) (Barred cells)) (sym (was ∙ ap Err is)) (barred_start cells e h)
+-- the same of any text
+pub counted : {S : Type 0} (takes : S → ℕ → ℕ → SingleQuery → S → Type 0) (cells : List Cell) (w : Walk) (a b : S) (o : Result (Unit {0}) Refusal) → start_refusal cells ≡ o → MatchResult o (λ _. Walks takes (codes (trimmed cells)) w a b) (λ e. Unstarted e w a b) → MatchResult (answer_of w) (Counts cells) (Barred cells)
+counted takes cells w a b (Ok x) h g = counted_from cells (codes (trimmed cells)) (answer_of w) h refl (record { given = g.given; stop = g.stop; walk = g.walk; answer = g.answer })
+counted takes cells w a b (Err e) h g = subst (λ r. MatchResult (ended_by w.given r) (Counts cells) (Barred cells)) (sym g.why) (barred_start cells e h)

@@ -41,8 +41,8 @@ put_all before a b n e given (q ∷ qs) many at h t =
     let c = t.0 in
     let p = t.1 in
     let next : Holding before c (given ++ q ∷ []) = record {
-      queries = laid_more before.queries.slots.now a.queries.slots.now c.queries.slots.now given a.queries.len c.queries.len q h.queries p.2 p.3;
-      separators = separator_more before.separators.slots.now a.separators.slots.now c.separators.slots.now a.separators.len c.separators.len n e given q many at h.separators p.4 p.5;
+      queries = laid_more before.queries.slots.now a.queries.slots.now c.queries.slots.now given a.queries.len c.queries.len q h.queries p.queries p.count;
+      separators = separator_more before.separators.slots.now a.separators.slots.now c.separators.slots.now a.separators.len c.separators.len n e given q many at h.separators p.separators p.less;
     } in
     subst (Holding before b) (append_assoc given (q ∷ []) qs)
     (put_all before c b (n + 1) q.raw.end (given ++ q ∷ []) qs (length-append given (q ∷ []) ∙ ap (λ m. m + 1) many) (sym (end_more 0 given q)) next t.2)
@@ -60,4 +60,4 @@ pub same_slots : (a b : Reading) (n e : ℕ) (qs : List SingleQuery) → Taken P
 same_slots a b n e [] t = (ap (λ r. r.queries.slots.ghost_name) (sym t), ap (λ r. r.separators.slots.ghost_name) (sym t))
 same_slots a b n e (q ∷ qs) t =
     let w = same_slots t.0 b (n + 1) q.raw.end qs t.2 in
-    (w.0 ∙ t.1.0, w.1 ∙ t.1.1)
+    (w.0 ∙ t.1.same_queries, w.1 ∙ t.1.same_separators)

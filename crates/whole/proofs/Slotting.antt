@@ -1,19 +1,10 @@
 -- Records in slots, one more at a time.
-use Rattle.std.proofs.Common.{◌≡◌, ℕ, ◌+◌, ◌<◌, ◌≤◌, Bool, true, false, cond, ltb, List, [], ◌∷◌, ◌++◌, length, get_or, take, drop, set, Some, None, sym, refl, ap, ◌∙◌, arith, length-append, length-set, length-take}
-use Rattle.std.specs.List.{slice_get}
-use Rattle.std.proofs.lemmas.List.{append_assoc, drop_more, set_at, get_or-take}
-use Rattle.std.proofs.lemmas.Option.{slice_get-get_or, slice_get_past}
+use Rattle.std.proofs.Common.{◌≡◌, ℕ, ◌+◌, ◌<◌, Bool, true, false, cond, ltb, List, [], ◌∷◌, ◌++◌, length, get_or, drop, set, sym, refl, ap, ◌∙◌, arith, length-append, length-set}
+use Rattle.std.proofs.lemmas.List.{append_assoc, drop_more, set_at}
 use Rattle.std.proofs.lemmas.Bool.{lt-ltb}
 use Rattle.grammar.specs.declared.query.SingleQuery.{SingleQuery}
 use Rattle.whole.specs.declared.reading.Separator.{Separator}
 use Rattle.whole.specs.Slots.{pushed_slots, pushed_len, Laid, end_of, gaps_from, gaps}
-
-pub nth_taken : {R : Type 0} (xs : List R) (len i : ℕ) (x : R) → i < len → i < length xs → x ≡ get_or xs i x → slice_get (take len xs) i ≡ Some x
-nth_taken xs len i x a b e =
-    slice_get-get_or (take len xs) i x (omega (arith, length-take len xs)) ∙ ap Some (get_or-take len xs i x a ∙ sym e)
-
-pub nth_untaken : {R : Type 0} (xs : List R) (len i : ℕ) → length (take len xs) ≤ i → slice_get (take len xs) i ≡ None
-nth_untaken xs len i h = slice_get_past (take len xs) i h
 
 pub laid_none : {R : Type 0} (before slots : List R) (len : ℕ) → slots ≡ before → len ≡ 0 → Laid before slots len []
 laid_none before slots len e n = record { size = ap length e; filled = λ _. e; count = λ _. n }

@@ -5,8 +5,9 @@ use Rattle.reader.specs.declared.refusal.Refusal.{Refusal}
 use Rattle.whole.specs.declared.nth.Finder.{Finder}
 
 -- query n is kept where it is the one looked for
-abbrev pub Finds : Finder → ℕ → ℕ → SingleQuery → Finder → Type 0
-Finds a n e q b = (b.k ≡ a.k) × (b.found ≡ cond (n == a.k) (Some q) a.found)
+pub record Finds (a : Finder) (n e : ℕ) (q : SingleQuery) (b : Finder) : Type 0 where
+  pub number : b.k ≡ a.k
+  pub found : b.found ≡ cond (n == a.k) (Some q) a.found
 
 -- what was found, or how the steps ended
 abbrev pub found_by : Option SingleQuery → Option Refusal → Result (Option SingleQuery) Refusal

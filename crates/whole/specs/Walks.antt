@@ -50,6 +50,12 @@ pub record Walks {S : Type 0} (takes : S → ℕ → ℕ → SingleQuery → S �
   pub answer : answer_of w ≡ stopped stop (length given)
   pub taken : Taken takes before 0 0 given after
 
+-- where a reading can't start on a text: no query was given, and the sink is as it was
+pub record Unstarted {S : Type 0} (e : Refusal) (w : Walk) (before after : S) : Type 0 where
+  pub none : w.given ≡ 0
+  pub why : w.refusal ≡ Some e
+  pub same : after ≡ before
+
 -- stepping through t stopped with this answer
 pub record Counted (t : List ℕ) (r : Result ℕ Refusal) : Type 0 where
   pub given : List SingleQuery

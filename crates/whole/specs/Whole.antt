@@ -2,11 +2,12 @@
 use Rattle.std.specs.Prelude.{◌≡◌, ℕ, ◌+◌, ◌-◌, Bool, true, false, cond, List, [], ◌∷◌, ◌++◌, length, drop, Some, None, Ok, Err, Option, Result, nat_le}
 use Rattle.std.specs.List.{slice_get}
 use Rattle.texts.specs.declared.cell.Cell.{Cell}
-use Rattle.texts.specs.Codes.{codes}
+use Rattle.texts.specs.Codes as cell
 use Rattle.texts.specs.Trim.{trimmed}
 use Rattle.grammar.specs.declared.query.SingleQuery.{SingleQuery}
 use Rattle.reader.specs.declared.refusal.Refusal.{Refusal}
 use Rattle.reader.specs.declared.refusal.Refusal.TheVariants.{NoReading}
+use Rattle.reader.specs.Standing.{Standing}
 use Rattle.reader.specs.Start.{start_refusal}
 use Rattle.replay.specs.Law.{Holds}
 use Rattle.replay.specs.Queries.{QueryTurn, queries_of}
@@ -31,7 +32,7 @@ pub data Unread (cells : List Cell) : Refusal → Type 0 where
   -- a bad cell or ill-formed UTF-8
   unstarted : {e : Refusal} → start_refusal cells ≡ Err e → Unread cells e
   -- stepping gives some queries, and then misses one at m
-  missed : (qs : List SingleQuery) {m : ℕ} → start_refusal cells ≡ Ok tt → Walked (codes (trimmed cells)) qs (Some m) → Unread cells (NoReading m)
+  missed : (qs : List SingleQuery) {m : ℕ} → start_refusal cells ≡ Ok tt → Walked (cell.codes (trimmed cells)) qs (Some m) → Unread cells (NoReading m)
 
 -- a text that is refused for what it is: it has no reading
 pub record Barred (cells : List Cell) (e : Refusal) : Type 0 where
@@ -47,6 +48,14 @@ pub record Counts (cells : List Cell) (n : ℕ) : Type 0 where
 -- n queries and the separators between them fit into so many slots
 abbrev pub enough : ℕ → ℕ → ℕ → Bool
 enough slots between n = cond (nat_le n slots) (nat_le (n - 1) between) false
+
+-- a reader is at the start of a text whose reading has n queries, which fit with their separators into so many slots
+pub record Fits (cells : List Cell) (slots between : ℕ) (reader : Standing) (n : ℕ) : Type 0 where
+  pub counts : Counts cells n
+  pub room : enough slots between n ≡ true
+  pub codes : reader.codes ≡ cell.codes (trimmed cells)
+  pub none : reader.k ≡ 0
+  pub start : reader.place ≡ 0
 
 -- a reading in slots, and how it was before: the text has a reading of n queries, they and their n − 1 separators stand
 -- in the first slots, and no other slot changed

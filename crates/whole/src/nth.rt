@@ -6,9 +6,8 @@ ghost use Rattle.reader.specs.Start.{start_refusal};
 ghost use Rattle.whole.specs.Finds.{Finds, found_by};
 ghost use Rattle.whole.specs.Whole.{Nth};
 
-use crate::walk::{Sink, walk_through};
+use crate::walk::{Sink, walk_text};
 use grammar::query::SingleQuery;
-use reader::reader::Reader;
 use reader::refusal::Refusal;
 use texts::text::Text;
 
@@ -35,12 +34,9 @@ fn found_by(
 ) -> Result<Option<SingleQuery>, Refusal>
     ensures { result ≡ found_by found refusal }
 {
-    match found {
-        Some(query) => Ok(Some(query)),
-        None => match refusal {
-            None => Ok(None),
-            Some(refusal) => Err(refusal),
-        },
+    match (found, refusal) {
+        (None, Some(refusal)) => Err(refusal),
+        _ => Ok(found),
     }
 }
 
@@ -48,8 +44,7 @@ fn found_by(
 pub fn nth_query<T: Text>(text: &T, k: usize) -> Result<Option<SingleQuery>, Refusal>
     ensures { MatchResult (start_refusal (T.Text.cells text.now)) (λ _. Nth (codes (trimmed (T.Text.cells text.now))) k result) (λ e. result ≡ Err e) }
 {
-    let mut reader = Reader::start(text)?;
     let mut finder = Finder { k, found: None };
-    let walk = walk_through(&mut reader, &mut finder);
+    let walk = walk_text(text, &mut finder);
     found_by(finder.found, walk.refusal)
 }

@@ -21,9 +21,5 @@ impl From<Outside> for WholeRefusal {
 pub fn part(bytes: &[u8], start: usize, end: usize) -> Result<&[u8], Outside>
     ensures { MatchResult result (λ s. part_of bytes.now start end ≡ Some s.now) (λ _. part_of bytes.now start end ≡ None) }
 {
-    if start <= end && end <= bytes.len() {
-        Ok(&bytes[start..end])
-    } else {
-        Err(Outside)
-    }
+    bytes.get(start..end).ok_or(Outside)
 }

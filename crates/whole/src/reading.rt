@@ -7,7 +7,7 @@ use crate::walk::Sink;
 use grammar::query::SingleQuery;
 
 // What stands between two queries, by its two places in the trimmed text.
-#[derive(Clone, Copy)]
+#[derive(Clone, Copy, Debug, PartialEq)]
 pub struct Separator {
     pub start: usize,
     pub end: usize,
@@ -23,14 +23,16 @@ pub struct Reading<'q, 's> {
 impl<'q, 's> Reading<'q, 's> {
     // No record yet; the slots stay as they are.
     pub fn new(queries: &'q mut [SingleQuery], separators: &'s mut [Separator]) -> Reading<'q, 's>
-        ensures queries { (result.queries.len ≡ 0) × ((result.queries.slots.now ≡ queries.old) × (result.queries.slots.ghost_name ≡ queries.entry.ghost_name)) }
-        ensures separators { (result.separators.len ≡ 0) × ((result.separators.slots.now ≡ separators.old) × (result.separators.slots.ghost_name ≡ separators.entry.ghost_name)) }
+        ensures query_reference { result.queries.slots.ghost_name ≡ queries.entry.ghost_name }
+        ensures no_query { result.queries.len ≡ 0 }
+        ensures query_slots { result.queries.slots.now ≡ queries.old }
+        ensures separator_reference { result.separators.slots.ghost_name ≡ separators.entry.ghost_name }
+        ensures no_separator { result.separators.len ≡ 0 }
+        ensures separator_slots { result.separators.slots.now ≡ separators.old }
     {
-        let queries = List::new(queries);
-        let separators = List::new(separators);
         Reading {
-            queries,
-            separators,
+            queries: List::new(queries),
+            separators: List::new(separators),
         }
     }
 }
@@ -39,9 +41,10 @@ impl Sink for Reading<'_, '_> {
     ghost takes = { Puts };
 
     fn take(&mut self, n: usize, end: usize, query: SingleQuery) {
-        self.queries.push(query);
+        // What no slot is left for is not kept.
+        let _ = self.queries.push(query);
         if n > 0 {
-            self.separators.push(Separator {
+            let _ = self.separators.push(Separator {
                 start: end,
                 end: query.raw.start,
             });

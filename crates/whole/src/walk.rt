@@ -1,13 +1,15 @@
 // Stepping through a text from its start up to its end or a refusal, with something that takes each query.
-ghost use Rattle.std.specs.Prelude.{◌≡◌, ℕ};
+ghost use Rattle.std.specs.Prelude.{◌≡◌, ℕ, MatchResult};
+ghost use Rattle.std.specs.Result.{result_err};
+ghost use Rattle.texts.specs.Codes as cell;
+ghost use Rattle.texts.specs.Trim.{trimmed};
 ghost use Rattle.grammar.specs.declared.query.SingleQuery.{SingleQuery as Query};
-ghost use Rattle.reader.specs.Steps.{shown};
-ghost use Rattle.whole.specs.Walks.{answer_of, Walks};
+ghost use Rattle.reader.specs.Start.{start_refusal};
+ghost use Rattle.whole.specs.Walks.{answer_of, Walks, Unstarted};
 
 use grammar::query::SingleQuery;
 use reader::reader::Reader;
 use reader::refusal::Refusal;
-use reader::step::Step;
 use texts::text::Text;
 
 // What takes the queries of a text. Query n follows a raw that ends at `end`; for the first, that is 0.
@@ -19,8 +21,9 @@ pub trait Sink {
         ensures { takes self.old n end query self.new };
 }
 
-// How many queries were given, and the refusal that stopped the steps, if it was not "end".
-#[derive(Clone, Copy)]
+// How many queries were given, and the refusal that stopped the steps, if it was not "end". A `Result` would have to
+// leave out one of the two at a refusal.
+#[derive(Clone, Copy, Debug, PartialEq)]
 pub struct Walk {
     pub given: usize,
     pub refusal: Option<Refusal>,
@@ -30,51 +33,49 @@ impl Walk {
     pub fn answer(self) -> Result<usize, Refusal>
         ensures { result ≡ answer_of self }
     {
-        match self.refusal {
-            None => Ok(self.given),
-            Some(refusal) => Err(refusal),
-        }
+        self.refusal.map_or(Ok(self.given), Err)
     }
 }
 
-fn step_through<T: Text, S: Sink>(reader: &mut Reader<T>, sink: &mut S) -> Walk
-    ensures same { reader.new.text ≡ reader.old.text }
-    ensures walked { Walks S.Sink.takes (shown reader.old.text.start reader.old.text.end (T.Text.cells reader.old.text.inner.now)) result sink.old sink.new }
+// Hands every query from the start on to the sink, up to the end or a refusal.
+fn hand_over<T: Text, S: Sink>(reader: &mut Reader<T>, sink: &mut S) -> Result<(), Refusal>
+    ensures same { reader.new.codes ≡ reader.old.codes }
+    ensures walked { Walks S.Sink.takes reader.old.codes (record { given = reader.new.k; refusal = result_err result }) sink.old sink.new }
 {
     reader.start_over();
-    for n in 0..16385 {
+    loop {
+        let n = reader.count();
         let end = reader.place();
-        match reader.step() {
-            Ok(step) => match step {
-                Step::Given(query) => sink.take(n, end, query),
-                Step::End => {
-                    return Walk {
-                        given: n,
-                        refusal: None,
-                    };
-                }
-            },
-            Err(refusal) => {
-                return Walk {
-                    given: n,
-                    refusal: Some(refusal),
-                };
-            }
+        match reader.step()? {
+            Some(query) => sink.take(n, end, query),
+            None => return Ok(()),
         }
     }
-    // A query takes a byte at least, so that there are no more than 16,384.
-    unreachable()
 }
 
 // Steps through a reader's text from its start, and hands every query that is given to the sink.
 // The reader then stands at the start.
 pub fn walk_through<T: Text, S: Sink>(reader: &mut Reader<T>, sink: &mut S) -> Walk
-    ensures same { reader.new.text ≡ reader.old.text }
+    ensures same { reader.new.codes ≡ reader.old.codes }
     ensures count { reader.new.k ≡ 0 }
     ensures after { reader.new.place ≡ 0 }
-    ensures walked { Walks S.Sink.takes (shown reader.old.text.start reader.old.text.end (T.Text.cells reader.old.text.inner.now)) result sink.old sink.new }
+    ensures walked { Walks S.Sink.takes reader.old.codes result sink.old sink.new }
 {
-    let walk = step_through(reader, sink);
+    let refusal = hand_over(reader, sink).err();
+    let given = reader.count();
     reader.start_over();
-    walk
+    Walk { given, refusal }
+}
+
+// The same of a text. Where a reading can't start on it, no query is given.
+pub fn walk_text<T: Text, S: Sink>(text: &T, sink: &mut S) -> Walk
+    ensures { MatchResult (start_refusal (T.Text.cells text.now)) (λ _. Walks S.Sink.takes (cell.codes (trimmed (T.Text.cells text.now))) result sink.old sink.new) (λ e. Unstarted e result sink.old sink.new) }
+{
+    match Reader::start(text) {
+        Ok(mut reader) => walk_through(&mut reader, sink),
+        Err(refusal) => Walk {
+            given: 0,
+            refusal: Some(refusal),
+        },
+    }
 }

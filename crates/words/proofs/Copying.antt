@@ -1,7 +1,6 @@
 -- Bytes over the first of others.
-use Rattle.std.proofs.Common.{◌≡◌, ℕ, zero, suc, ◌+◌, ◌<◌, min, Bool, true, false, leb, List, [], ◌∷◌, ◌++◌, map, length, get_or, take, drop, set, sym, refl, ap, ◌∙◌, zero-add, arith}
-use lib.Seq.{paste}
-use Rattle.std.proofs.lemmas.List.{append_assoc, take_all, drop_all, take-take, take_more, drop_more, set_at, length-take-le}
+use Rattle.std.proofs.Common.{◌≡◌, ℕ, zero, suc, ◌+◌, ◌<◌, min, Bool, true, false, leb, List, [], ◌∷◌, ◌++◌, map, length, get_or, take, drop, set, sym, refl, ap, ◌∙◌, arith}
+use Rattle.std.proofs.lemmas.List.{append_assoc, append-nil, take_all, drop_all, take_more, drop_more, set_at, length-take-le}
 use Rattle.std.proofs.lemmas.Bool.{leb-true, leb-false}
 use Rattle.texts.specs.declared.cell.Cell.{Cell}
 use Rattle.texts.specs.declared.cell.Cell.TheVariants.{Byte, Bad}
@@ -22,8 +21,12 @@ overlay out xs n e = split (leb (length xs) (length out)) refl
         let full : n ≡ length out = omega (arith, e, h) in
         λ i. take (full i) xs ++ (drop_all n out (omega (arith, full)) ∙ sym (drop_all (length xs) out (omega arith))) i
 
-pub paste_front : (out xs : List ℕ) (n : ℕ) → n ≡ min (length out) (length xs) → paste out 0 (take n xs) n ≡ overlaid out xs
-paste_front out xs n e = (λ i. take-take n n xs (omega arith) i ++ drop (zero-add n i) out) ∙ overlay out xs n e
+-- all of them were copied, where there is room for no more
+pub copied : (out xs now : List ℕ) (place room : ℕ) → room ≡ min (length out) (length xs) → place ≡ length (take room out) → now ≡ take place xs ++ drop place (take room out) → now ++ drop room out ≡ overlaid out xs
+copied out xs now place room er ep was =
+    let full : place ≡ room = ep ∙ length-take-le room out (omega (arith, er)) in
+    let none : drop place (take room out) ≡ [] = drop_all place (take room out) (omega (arith, ep)) in
+    ap (λ l. l ++ drop room out) (was ∙ ((λ i. take (full i) xs ++ none i) ∙ append-nil (take room xs))) ∙ overlay out xs room er
 
 -- one byte more
 pub copy_more : (out xs now : List ℕ) (i x : ℕ) → i < length xs → i < length out → x ≡ get_or xs i 0 → now ≡ take i xs ++ drop i out → set now i x ≡ take (i + 1) xs ++ drop (i + 1) out

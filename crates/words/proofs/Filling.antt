@@ -1,25 +1,25 @@
 -- Words filled with a reading, or left alone.
-use Rattle.std.proofs.Common.{◌≡◌, ℕ, suc, ◌+◌, ◌-◌, ◌*◌, ◌/◌, ◌<◌, ◌≤◌, true, cond, ltb, List, [], ◌∷◌, ◌++◌, map, length, drop, Err, Result, sym, refl, ap, ◌∙◌, subst, suc-mul, le-div_iff_mul-le, zero-mul, arith, length-append, length-drop, MatchResult}
+use Rattle.std.proofs.Common.{◌≡◌, ℕ, suc, ◌+◌, ◌-◌, ◌*◌, ◌/◌, ◌<◌, ◌≤◌, cond, ltb, List, [], ◌∷◌, ◌++◌, map, length, drop, sym, refl, ap, ◌∙◌, suc-mul, le-div_iff_mul-le, zero-mul, arith, length-append, length-drop}
 use lib.Seq.{paste}
 use Rattle.std.specs.List.{flat_map}
 use Rattle.std.proofs.lemmas.List.{append_assoc, append-nil, drop-drop, drop_at, take_at, take_all}
 use Rattle.std.proofs.lemmas.Bool.{cond-true, lt-ltb}
 use Rattle.texts.specs.declared.cell.Cell.{Cell}
-use Rattle.texts.specs.Codes.{codes}
-use Rattle.texts.specs.Trim.{trimmed}
-use Rattle.reader.specs.declared.refusal.Refusal.{Refusal}
-use Rattle.whole.specs.declared.refusal.WholeRefusal.{WholeRefusal}
-use Rattle.whole.specs.declared.refusal.WholeRefusal.TheVariants.{OfText}
+use Rattle.reader.specs.Standing.{Standing}
 use Rattle.whole.specs.Slots.{gaps}
-use Rattle.whole.specs.Whole.{Counts, Barred, enough, Why, barred}
+use Rattle.whole.specs.Walks.{Walks}
+use Rattle.whole.specs.Whole.{Fits}
 use Rattle.whole.proofs.Filling.{walk_counts, enough_room}
 use Rattle.whole.proofs.Wholes.{gaps_are, gaps_count}
 use Rattle.exports.specs.Layout.{words_of}
+use Rattle.exports.specs.Put.{put_slot}
 use Rattle.records.specs.Layout.{places_of}
 use Rattle.whole.specs.declared.walk.Walk.{Walk}
-use Rattle.words.specs.Fill.{FilledWords, RefusedWords}
-use Rattle.words.specs.Put.{put_slot, put_slots}
-use Rattle.words.specs.Steps.{Written}
+use Rattle.words.specs.declared.steps.Slices.{Slices}
+use Rattle.words.specs.Fill.{FilledWords}
+use Rattle.words.specs.Put.{put_slots}
+use Rattle.words.specs.Steps.{Writes}
+use Rattle.words.proofs.Slots.{written}
 
 -- a record behind others that fill all words before it
 put_behind : (front rest r : List ℕ) (n w : ℕ) → length r ≡ w → length front ≡ n * w → n < length (front ++ rest) / w → put_slot (front ++ rest) n r ≡ (front ++ r) ++ drop w rest
@@ -52,22 +52,16 @@ put_first f w some wide xs words m e h =
     put_all f w some wide xs [] words 0 (sym (zero-mul w)) ((le-div_iff_mul-le {k = w} {x = length xs} {y = length words} some).0 (omega (arith, e, h)))
     ∙ ap (λ k. flat_map f xs ++ drop (k * w) words) e
 
--- the first words hold the reading
-pub filled : (cells : List Cell) (t : List ℕ) (n : ℕ) (u : Counts cells n) (w : Walk) (q q' s s' : List ℕ) → t ≡ codes (trimmed cells) → enough (length q / 24) (length s / 2) n ≡ true → Written t w q q' s s' → FilledWords cells q q' s s' n
-filled cells t n u w q q' s s' et room g =
-    let l = enough_room (length q / 24) (length s / 2) n room in
-    let x = walk_counts cells t n u g.given g.stop et g.walk in
+-- what steps through a text with a reading wrote into words where it fits
+pub filled : (cells : List Cell) (n : ℕ) (reader : Standing) (w : Walk) (a b : Slices) → Fits cells (length a.queries.now / 24) (length a.separators.now / 2) reader n → Walks Writes reader.codes w a b → FilledWords cells a.queries.now b.queries.now a.separators.now b.separators.now n
+filled cells n reader w a b f g =
+    let l = enough_room (length a.queries.now / 24) (length a.separators.now / 2) n f.room in
+    let x = walk_counts cells reader.codes n f.counts g.given g.stop f.codes g.walk in
     let d : length (gaps g.given) ≡ n - 1 = gaps_count g.given ∙ ap (λ m. m - 1) x.2 in
+    let all = written a b g.given g.taken in
     record {
-      counts = u;
-      fits = room;
-      laid = g.laid ∙ (put_first words_of 24 (omega arith) (λ y. refl) g.given q n x.2 l.0 ∙ ap (λ l. flat_map words_of l ++ drop (n * 24) q) x.0);
-      parted = g.parted ∙ (put_first places_of 2 (omega arith) (λ y. refl) (gaps g.given) s (n - 1) d l.1 ∙ ap (λ l. flat_map places_of l ++ drop ((n - 1) * 2) s) (ap gaps x.0 ∙ gaps_are u.turns));
+      counts = f.counts;
+      fits = f.room;
+      laid = all.queries ∙ (put_first words_of 24 (omega arith) (λ y. refl) g.given a.queries.now n x.2 l.0 ∙ ap (λ l. flat_map words_of l ++ drop (n * 24) a.queries.now) x.0);
+      parted = all.separators ∙ (put_first places_of 2 (omega arith) (λ y. refl) (gaps g.given) a.separators.now (n - 1) d l.1 ∙ ap (λ l. flat_map places_of l ++ drop ((n - 1) * 2) a.separators.now) (ap gaps x.0 ∙ gaps_are f.counts.turns));
     }
-
-pub stayed : (cells : List Cell) (q s : List ℕ) (e : WholeRefusal) → Why cells (length q / 24) (length s / 2) e → RefusedWords cells q q s s e
-stayed cells q s e w = record { why = w; queries_stay = refl; separators_stay = refl }
-
--- at the exit of a `?`
-pub passed_on : (cells : List Cell) (q s : List ℕ) (r : Result ℕ WholeRefusal) (x : WholeRefusal) (e : Refusal) → r ≡ Err x → x ≡ OfText e → Barred cells e → MatchResult r (FilledWords cells q q s s) (RefusedWords cells q q s s)
-passed_on cells q s r x e was is b = subst (λ y. MatchResult y (FilledWords cells q q s s) (RefusedWords cells q q s s)) (sym (was ∙ ap Err is)) (stayed cells q s (OfText e) (barred b))

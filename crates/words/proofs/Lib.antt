@@ -1,3 +1,4 @@
 pub mod Copying
 pub mod Filling
+pub mod Reading
 pub mod Slots

@@ -1,5 +1,5 @@
 -- Records of numbers, one behind another.
-use Rattle.std.proofs.Common.{◌≡◌, ℕ, ◌+◌, ◌-◌, ◌*◌, ◌/◌, ◌<◌, ◌≤◌, ltb, List, [], ◌∷◌, ◌++◌, map, length, sym, refl, ap, ◌∙◌, subst, le_trans, add-zero, mul-le-mul_right, suc-mul, div-mul-le_self, arith, length-append}
+use Rattle.std.proofs.Common.{◌≡◌, ℕ, ◌+◌, ◌-◌, ◌<◌, ltb, List, [], ◌∷◌, ◌++◌, map, length, sym, refl, ap, ◌∙◌, subst, add-zero, arith, length-append}
 use lib.ListN.{length-map}
 use Rattle.std.proofs.lemmas.List.{append_assoc, append-nil, map_push}
 use Rattle.std.proofs.lemmas.Bool.{cond-true, lt-ltb}
@@ -9,14 +9,11 @@ use Rattle.whole.specs.Slots.{end_of, gaps}
 use Rattle.whole.specs.Walks.{Taken}
 use Rattle.whole.proofs.Slotting.{end_more, gaps_more, gaps_long}
 use Rattle.exports.specs.Layout.{words_of}
+use Rattle.exports.specs.Put.{put_slot}
 use Rattle.records.specs.Layout.{places_of}
 use Rattle.words.specs.declared.steps.Slices.{Slices}
-use Rattle.words.specs.Put.{put_slot, put_slots, put_before}
+use Rattle.words.specs.Put.{put_slots, put_before}
 use Rattle.words.specs.Steps.{Writes}
-
--- a record that begins before the last whole one ends within the words
-pub slot_fits : (n w m : ℕ) → n < m / w → n * w + w ≤ m
-slot_fits n w m h = le_trans (subst (λ x. x ≤ (m / w) * w) (suc-mul n w) (mul-le-mul_right w h)) (div-mul-le_self m w)
 
 put_more : (words : List ℕ) (m : ℕ) (rs : List (List ℕ)) (r : List ℕ) → put_slots words m (rs ++ r ∷ []) ≡ put_slot (put_slots words m rs) (m + length rs) r
 put_more words m [] r = ap (λ n. put_slot words n r) (sym (add-zero m))
@@ -39,22 +36,32 @@ separators_more words now now' n end (x ∷ qs) q was many at is =
     slots_more places_of words now now' (n - 1) (gaps (x ∷ qs)) s was (omega (arith, gaps_long x qs, many)) (is ∙ cond-true (ltb 0 n) (put_slot now (n - 1) (places_of s)) now (lt-ltb 0 n some))
     ∙ ap (λ l. put_slots words 0 (map places_of l)) (sym (gaps_more (x ∷ qs) q s (omega arith) at refl))
 
--- queries written one after another
-pub write_all : (q s : List ℕ) (a b : Slices) (n e : ℕ) (given qs : List SingleQuery) → length given ≡ n → e ≡ end_of 0 given → a.queries.now ≡ put_slots q 0 (map words_of given) → a.separators.now ≡ put_slots s 0 (map places_of (gaps given)) → Taken Writes a n e qs b → (b.queries.now ≡ put_slots q 0 (map words_of (given ++ qs))) × (b.separators.now ≡ put_slots s 0 (map places_of (gaps (given ++ qs))))
-write_all q s a b n e given [] many at eq es t =
-    let all = sym (append-nil given) in
-    (ap (λ x. x.queries.now) (sym t) ∙ (eq ∙ ap (λ l. put_slots q 0 (map words_of l)) all), ap (λ x. x.separators.now) (sym t) ∙ (es ∙ ap (λ l. put_slots s 0 (map places_of (gaps l))) all))
-write_all q s a b n e given (x ∷ qs) many at eq es t =
-    let c = t.0 in
-    let w = write_all q s c b (n + 1) x.raw.end (given ++ x ∷ []) qs (length-append given (x ∷ []) ∙ ap (λ m. m + 1) many) (sym (end_more 0 given x))
-    (slots_more words_of q a.queries.now c.queries.now n given x eq many t.1.2)
-    (separators_more s a.separators.now c.separators.now n e given x es many at t.1.3) t.2 in
-    let all = append_assoc given (x ∷ []) qs in
-    (w.0 ∙ ap (λ l. put_slots q 0 (map words_of l)) all, w.1 ∙ ap (λ l. put_slots s 0 (map places_of (gaps l))) all)
+-- the words hold these queries and the separators between them, as far as they fit, and are those that were lent
+pub record Written (before after : Slices) (qs : List SingleQuery) : Type 0 where
+  pub same_queries : after.queries.ghost_name ≡ before.queries.ghost_name
+  pub same_separators : after.separators.ghost_name ≡ before.separators.ghost_name
+  pub queries : after.queries.now ≡ put_slots before.queries.now 0 (map words_of qs)
+  pub separators : after.separators.now ≡ put_slots before.separators.now 0 (map places_of (gaps qs))
 
--- the slices are those that were lent
-pub same_slices : (a b : Slices) (n e : ℕ) (qs : List SingleQuery) → Taken Writes a n e qs b → (b.queries.ghost_name ≡ a.queries.ghost_name) × (b.separators.ghost_name ≡ a.separators.ghost_name)
-same_slices a b n e [] t = (ap (λ r. r.queries.ghost_name) (sym t), ap (λ r. r.separators.ghost_name) (sym t))
-same_slices a b n e (q ∷ qs) t =
-    let w = same_slices t.0 b (n + 1) q.raw.end qs t.2 in
-    (w.0 ∙ t.1.0, w.1 ∙ t.1.1)
+-- queries written one after another
+write_all : (before a b : Slices) (n e : ℕ) (given qs : List SingleQuery) → length given ≡ n → e ≡ end_of 0 given → Written before a given → Taken Writes a n e qs b → Written before b (given ++ qs)
+write_all before a b n e given [] many at h t = subst (Written before b) (sym (append-nil given)) (subst (λ x. Written before x given) t h)
+write_all before a b n e given (q ∷ qs) many at h t =
+    let c = t.0 in
+    let p = t.1 in
+    let next : Written before c (given ++ q ∷ []) = record {
+      same_queries = p.same_queries ∙ h.same_queries;
+      same_separators = p.same_separators ∙ h.same_separators;
+      queries = slots_more words_of before.queries.now a.queries.now c.queries.now n given q h.queries many p.queries;
+      separators = separators_more before.separators.now a.separators.now c.separators.now n e given q h.separators many at p.separators;
+    } in
+    subst (Written before b) (append_assoc given (q ∷ []) qs)
+    (write_all before c b (n + 1) q.raw.end (given ++ q ∷ []) qs (length-append given (q ∷ []) ∙ ap (λ m. m + 1) many) (sym (end_more 0 given q)) next t.2)
+
+-- the same from the first query on
+pub written : (a b : Slices) (qs : List SingleQuery) → Taken Writes a 0 0 qs b → Written a b qs
+written a b qs t = write_all a a b 0 0 [] qs refl refl (record { same_queries = refl; same_separators = refl; queries = refl; separators = refl }) t
+
+-- words that were lent are afterwards what the borrower left in them
+pub lent : (P : List ℕ → List ℕ → Type 0) (a x b y : List ℕ) → a ≡ x → b ≡ y → P x y → P a b
+lent P a x b y d e p = subst (λ l. P l b) (sym d) (subst (P x) (sym e) p)

@@ -1,10 +1,6 @@
 -- Records of numbers in a slice of numbers, one behind another.
-use Rattle.std.specs.Prelude.{ℕ, ◌+◌, ◌-◌, ◌*◌, ◌/◌, cond, List, [], ◌∷◌, length, nat_lt}
-use Rattle.std.proofs.Math.Seq.{paste}
-
--- record n, where there is room for a whole one; all records are equally long
-unfoldable pub put_slot : List ℕ → ℕ → List ℕ → List ℕ
-put_slot words n ws = cond (nat_lt n (length words / length ws)) (paste words (n * length ws) ws (length ws)) words
+use Rattle.std.specs.Prelude.{ℕ, ◌+◌, ◌-◌, cond, List, [], ◌∷◌, nat_lt}
+use Rattle.exports.specs.Put.{put_slot}
 
 -- records one behind another, the first of them number n
 abbrev pub put_slots : List ℕ → ℕ → List (List ℕ) → List ℕ

@@ -7,33 +7,23 @@ use Rattle.grammar.specs.declared.query.SingleQuery.{SingleQuery}
 use Rattle.reader.specs.declared.refusal.Refusal.{Refusal}
 use Rattle.reader.specs.Start.{start_refusal}
 use Rattle.whole.specs.Slots.{gaps}
-use Rattle.whole.specs.Walks.{Walked, stopped, answer_of}
+use Rattle.whole.specs.Walks.{Walked, stopped}
 use Rattle.exports.specs.Layout.{words_of}
+use Rattle.exports.specs.Put.{put_slot}
 use Rattle.records.specs.Layout.{places_of}
-use Rattle.whole.specs.declared.walk.Walk.{Walk}
 use Rattle.words.specs.declared.steps.Slices.{Slices}
 use Rattle.words.specs.Outcome.{outcome_of, of_text}
-use Rattle.words.specs.Put.{put_slot, put_slots, put_before}
+use Rattle.words.specs.Put.{put_slots, put_before}
 
 -- the record of query n and, if it is not the first, of the separator before it are written; the slices are the same
-abbrev pub Writes : Slices → ℕ → ℕ → SingleQuery → Slices → Type 0
-Writes a n e q b =
-    (b.queries.ghost_name ≡ a.queries.ghost_name)
-    × (b.separators.ghost_name ≡ a.separators.ghost_name)
-    × (b.queries.now ≡ put_slot a.queries.now n (words_of q))
-    × (b.separators.now ≡ put_before a.separators.now n e q.raw.start)
+pub record Writes (a : Slices) (n e : ℕ) (q : SingleQuery) (b : Slices) : Type 0 where
+  pub same_queries : b.queries.ghost_name ≡ a.queries.ghost_name
+  pub same_separators : b.separators.ghost_name ≡ a.separators.ghost_name
+  pub queries : b.queries.now ≡ put_slot a.queries.now n (words_of q)
+  pub separators : b.separators.now ≡ put_before a.separators.now n e q.raw.start
 
--- the records that the steps through t gave were written as far as there is room for whole ones
-pub record Written (t : List ℕ) (w : Walk) (queries queries' separators separators' : List ℕ) : Type 0 where
-  pub given : List SingleQuery
-  pub stop : Option ℕ
-  pub walk : Walked t given stop
-  pub many : w.given ≡ length given
-  pub answer : answer_of w ≡ stopped stop (length given)
-  pub laid : queries' ≡ put_slots queries 0 (map words_of given)
-  pub parted : separators' ≡ put_slots separators 0 (map places_of (gaps given))
-
--- the same of a text on which a reading can start, and then how it ended
+-- a text on which a reading can start: the records that the steps through t gave were written as far as there is room
+-- for whole ones, and then how it ended
 pub record Stepped (t : List ℕ) (count : ℕ) (queries queries' separators separators' outcome outcome' : List ℕ) : Type 0 where
   pub given : List SingleQuery
   pub stop : Option ℕ

@@ -1,7 +1,7 @@
 // Bytes copied out: a part of the caller's bytes, or the text of a pile.
 ghost use Rattle.std.specs.Prelude.{◌≡◌, ℕ, map, length, MatchResult};
 ghost use Rattle.texts.specs.Cells.{answer};
-ghost use Rattle.words.specs.Copy.{overlaid, byte_shown, found_shown, answer_shown, Copied, Uncopied};
+ghost use Rattle.words.specs.Copy.{overlaid, byte_shown, answer_shown, Copied, Uncopied};
 
 use texts::text::Text;
 use whole::part::part;
@@ -12,7 +12,7 @@ fn copy_front(out: &mut [u8], bytes: &[u8])
     ensures { out.new ≡ overlaid out.old bytes.now }
 {
     let n = out.len().min(bytes.len());
-    out[0..n].copy_from_slice(&bytes[0..n]);
+    out[..n].copy_from_slice(&bytes[..n]);
 }
 
 // The caller's bytes from a place up to another, as many as there is room for. Answers how many they are.
@@ -29,25 +29,13 @@ pub fn copy_part(
     Ok(found.len())
 }
 
-// What stands for a bad cell: the byte that ASCII has for what is in error.
+// What tells C of a bad cell: the byte that ASCII has for what is in error.
 const SUBSTITUTE: u8 = 26;
-
-fn shown_found(found: Option<u8>) -> u8
-    ensures { result ≡ found_shown found }
-{
-    match found {
-        Some(byte) => byte,
-        None => SUBSTITUTE,
-    }
-}
 
 fn shown_at<T: Text>(text: &T, place: usize) -> u8
     ensures { result ≡ answer_shown (answer (T.Text.cells text.now) place) }
 {
-    match text.cell(place) {
-        Ok(found) => shown_found(found),
-        Err(_) => SUBSTITUTE,
-    }
+    text.cell(place).ok().flatten().unwrap_or(SUBSTITUTE)
 }
 
 // The bytes of a text, as many as there is room for. Answers how many cells it has.
@@ -56,9 +44,9 @@ pub fn copy_text<T: Text>(text: &T, out: &mut [u8]) -> usize
     ensures copied { out.new ≡ overlaid out.old (map byte_shown (T.Text.cells text.now)) }
 {
     let n = text.len();
-    let room = out.len();
-    for place in 0..n.min(room) {
-        out[place] = shown_at(text, place);
+    let room = n.min(out.len());
+    for (place, byte) in out[..room].iter_mut().enumerate() {
+        *byte = shown_at(text, place);
     }
     n
 }

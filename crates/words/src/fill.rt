@@ -2,13 +2,13 @@
 ghost use Rattle.std.specs.Result.{MatchResult};
 ghost use Rattle.words.specs.Fill.{FilledWords, RefusedWords};
 
-use crate::steps::write_steps;
-use reader::reader::Reader;
+use crate::steps::Slices;
 use texts::text::Text;
 use whole::refusal::WholeRefusal;
-use whole::whole::{count, has_room};
+use whole::walk::walk_through;
+use whole::whole::fitting;
 
-// Writes the n queries and n - 1 separators of the reading, and no other word; answers n.
+// C lends two slices. Writes the n queries and n - 1 separators of the reading, and no other word; answers n.
 // A refusal leaves every word as it was.
 pub fn fill_text<T: Text>(
     text: &T,
@@ -17,11 +17,11 @@ pub fn fill_text<T: Text>(
 ) -> Result<usize, WholeRefusal>
     ensures { MatchResult result (FilledWords (T.Text.cells text.now) queries.old queries.new separators.old separators.new) (RefusedWords (T.Text.cells text.now) queries.old queries.new separators.old separators.new) }
 {
-    let mut reader = Reader::start(text)?;
-    let n = count(&mut reader)?;
-    if !has_room(n, queries.len() / 24, separators.len() / 2) {
-        return Err(WholeRefusal::TooFewSlots { queries: n });
-    }
-    write_steps(&mut reader, queries, separators);
+    let (mut reader, n) = fitting(text, queries.len() / 24, separators.len() / 2)?;
+    let mut slices = Slices {
+        queries,
+        separators,
+    };
+    walk_through(&mut reader, &mut slices);
     Ok(n)
 }
