@@ -4,13 +4,14 @@
 #![tactic(auto)]
 
 use layers::cover::Cover;
-use listing::{print_query, print_refusal};
+use listing::{QueryLine, RefusalLine};
 use replay::calls::{Answer, Call, Exchange};
 use replay::replay::replay;
-use std::io;
 use std::io::{BufRead, BufReader};
+use std::{fmt, io};
 use texts::store::ByteStore;
 
+// Not by `FromStr`: `Call` is another crate's, and a type around it would say no more than this function.
 fn call_of(word: &str) -> Option<Call> {
     match word {
         "step" => Some(Call::Step),
@@ -21,25 +22,31 @@ fn call_of(word: &str) -> Option<Call> {
     }
 }
 
-fn print_answer(rt: &HostRuntime, answer: Answer) -> io::Result<()> {
-    match answer {
-        Answer::Given(query) => print_query(rt, query),
-        Answer::End => println!(rt; "end"),
-        Answer::Refused(refusal) => print_refusal(rt, refusal),
-        Answer::Moved => println!(rt; "moved"),
-        Answer::Anew => println!(rt; "anew"),
-        Answer::At(place) => println!(rt; "at {place}"),
-        Answer::Open => println!(rt; "open"),
+// An answer as a line.
+#[derive(Clone, Copy)]
+struct AnswerLine(Answer);
+
+impl fmt::Display for AnswerLine {
+    fn fmt<W: fmt::Write>(&self, f: &mut fmt::Formatter<W>) -> fmt::Result {
+        match self.0 {
+            Answer::Given(query) => write!(f, "{}", QueryLine(query)),
+            Answer::End => write!(f, "end"),
+            Answer::Refused(refusal) => write!(f, "{}", RefusalLine(refusal)),
+            Answer::Moved => write!(f, "moved"),
+            Answer::Anew => write!(f, "anew"),
+            Answer::At(place) => write!(f, "at {place}"),
+            Answer::Open => write!(f, "open"),
+        }
     }
 }
 
-fn print_replay(rt: &HostRuntime, statement: &[u8], exchanges: &mut [Exchange]) -> io::Result<()> {
-    let pile = Cover::new(ByteStore::new(statement));
+fn print_replay(rt: &HostRuntime, statement: &str, exchanges: &mut [Exchange]) -> io::Result<()> {
+    let pile = Cover::new(ByteStore::new(statement.as_bytes()));
     match replay(&pile, exchanges) {
-        Err(refusal) => print_refusal(rt, refusal),
+        Err(refusal) => println!(rt; "{}", RefusalLine(refusal)),
         Ok(k) => {
             for exchange in exchanges.iter() {
-                print_answer(rt, exchange.answer)?;
+                println!(rt; "{}", AnswerLine(exchange.answer))?;
             }
             println!(rt; "{k} before the place")
         }
@@ -47,20 +54,19 @@ fn print_replay(rt: &HostRuntime, statement: &[u8], exchanges: &mut [Exchange]) 
 }
 
 fn main(rt: HostRuntime) -> io::Result<()> {
-    let mut statement = String::new(rt.alloc());
+    let mut lines = BufReader::new(rt.alloc(), rt.stdin())?.lines(rt.alloc());
+    let statement = match lines.next() {
+        Some(line) => line?,
+        None => String::new(rt.alloc()),
+    };
     let mut exchanges = Vec::new(rt.alloc());
-    let mut first = true;
-    for line in BufReader::new(rt.alloc(), rt.stdin())?.lines(rt.alloc()) {
-        let line = line?;
-        if first {
-            statement.push_str(line.as_str())?;
-            first = false;
-        } else if let Some(call) = call_of(line.as_str()) {
+    for line in lines {
+        if let Some(call) = call_of(line?.as_str()) {
             exchanges.push(Exchange {
                 call,
                 answer: Answer::Open,
             })?;
         }
     }
-    print_replay(&rt, statement.as_bytes(), &mut exchanges)
+    print_replay(&rt, statement.as_str(), &mut exchanges)
 }

@@ -14,31 +14,28 @@ use std::io;
 use texts::store::ByteStore;
 use texts::trim::Trim;
 
-// A chain, then the join of its cover with more bytes, trimmed, and the cover of both joined.
-fn pile(rt: &HostRuntime, name: &str, memory: &[u8], first: u16, more: &[u8]) -> io::Result<()> {
-    let store = ChainStore::new(memory, first);
-    let second = ByteStore::new(more);
-    show(rt, name, &store)?;
-    show(
-        rt,
-        "  trim of join of cover",
-        &Trim::new(Join::new(Cover::new(store), second)),
-    )?;
+// The trim of the join of a cover over a chain with more bytes.
+type Pile<'a> = Trim<Join<Cover<ChainStore<'a>>, ByteStore<'a>>>;
+
+fn pile_of<'a>(chain: ChainStore<'a>, more: &'a [u8]) -> Pile<'a> {
+    Trim::new(Join::new(Cover::new(chain), ByteStore::new(more)))
+}
+
+// A chain, then its pile with more bytes, and the cover of both joined.
+fn pile(rt: &HostRuntime, name: &str, chain: ChainStore, more: &[u8]) -> io::Result<()> {
+    show(rt, name, &chain)?;
+    show(rt, "  trim of join of cover", &pile_of(chain, more))?;
     show(
         rt,
         "  cover of join",
-        &Cover::new(Join::new(&store, &second)),
+        &Cover::new(Join::new(&chain, ByteStore::new(more))),
     )
 }
 
-// What a reader answers on the trim of the join of a cover over the chain with more bytes.
-fn read(rt: &HostRuntime, name: &str, memory: &[u8], first: u16, more: &[u8]) -> io::Result<()> {
-    let store = ChainStore::new(memory, first);
+// What a reader answers on the pile of a chain with more bytes.
+fn read(rt: &HostRuntime, name: &str, chain: ChainStore, more: &[u8]) -> io::Result<()> {
     println!(rt; "read: {name}")?;
-    print_reading(
-        rt,
-        &Trim::new(Join::new(Cover::new(store), ByteStore::new(more))),
-    )
+    print_reading(rt, &pile_of(chain, more))
 }
 
 // A statement of two records and the site's own, good and with each kind of damage.
@@ -51,16 +48,24 @@ fn readings(rt: &HostRuntime) -> io::Result<()> {
         ],
     )?;
     let site = b"chrome >= 60 or current node";
-    read(rt, "good", &memory, 1, site)?;
-    read(rt, "index past the memory", &memory, 3, site)?;
-    read(rt, "text outside the grammar", &memory, 1, b"x, electron")?;
-    read(rt, "text that is not UTF-8", &memory, 2, b"\xff")?;
-    let memory = spoilt(memory, 64 + 1, 1);
-    read(rt, "wrong check", &memory, 1, site)?;
-    let memory = spoilt(memory, 64 + 3, 106);
-    read(rt, "ring", &memory, 1, site)?;
-    let memory = spoilt(memory, 64 + 2, 61);
-    read(rt, "61 bytes used", &memory, 1, site)
+    for (name, first, more) in [
+        ("good", 1, site.as_slice()),
+        ("index past the memory", 3, site),
+        ("text outside the grammar", 1, b"x, electron"),
+        ("text that is not UTF-8", 2, b"\xff"),
+    ] {
+        read(rt, name, ChainStore::new(&memory, first), more)?;
+    }
+    let mut memory = memory;
+    for (name, place, byte) in [
+        ("wrong check", 64 + 1, 1),
+        ("ring", 64 + 3, 106),
+        ("61 bytes used", 64 + 2, 61),
+    ] {
+        memory = spoilt(memory, place, byte);
+        read(rt, name, ChainStore::new(&memory, 1), site)?;
+    }
+    Ok(())
 }
 
 // A good chain that goes from the first record to the third and back to the second.
@@ -73,21 +78,31 @@ fn good(rt: &HostRuntime) -> io::Result<()> {
             record(2, b",\r\nfirefox"),
         ],
     )?;
-    pile(rt, "good", &memory, 1, b"dead # all\n")?;
-    pile(rt, "no second text", &memory, 1, b"")?;
-    pile(rt, "no first text", &memory, 0, b"dead # all\n")?;
-    pile(rt, "comment without an end", &memory, 3, b"# x")
+    for (name, first, more) in [
+        ("good", 1, b"dead # all\n".as_slice()),
+        ("no second text", 1, b""),
+        ("no first text", 0, b"dead # all\n"),
+        ("comment without an end", 3, b"# x"),
+    ] {
+        pile(rt, name, ChainStore::new(&memory, first), more)?;
+    }
+    Ok(())
 }
 
 const MORE: &[u8] = b" x\n y ";
 
 // Memories with no record, and one with a record that follows itself.
 fn few(rt: &HostRuntime) -> io::Result<()> {
-    pile(rt, "no record, no index", b"", 0, MORE)?;
-    pile(rt, "no record, index 1", b"", 1, MORE)?;
     let one = record(1, b"#x");
-    pile(rt, "part of a record", &one[0..63], 1, MORE)?;
-    pile(rt, "record that follows itself", &one, 1, MORE)
+    for (name, memory, first) in [
+        ("no record, no index", b"".as_slice(), 0),
+        ("no record, index 1", b"", 1),
+        ("part of a record", front(&one, 63), 1),
+        ("record that follows itself", &one, 1),
+    ] {
+        pile(rt, name, ChainStore::new(memory, first), MORE)?;
+    }
+    Ok(())
 }
 
 // Indices that lead nowhere or round.
@@ -96,30 +111,35 @@ fn indices(rt: &HostRuntime) -> io::Result<()> {
         rt.alloc(),
         &[record(2, b" a"), record(1, b"b#"), record(9, b"c")],
     )?;
-    pile(rt, "first index past the memory", &three, 4, MORE)?;
-    pile(rt, "next index past the memory", &three, 3, MORE)?;
-    pile(rt, "ring of two in three records", &three, 1, MORE)?;
-    pile(rt, "part of the second record", front(&three, 127), 1, MORE)
+    for (name, memory, first) in [
+        ("first index past the memory", three.as_slice(), 4),
+        ("next index past the memory", &three, 3),
+        ("ring of two in three records", &three, 1),
+        ("part of the second record", front(&three, 127), 1),
+    ] {
+        pile(rt, name, ChainStore::new(memory, first), MORE)?;
+    }
+    Ok(())
 }
 
-// A chain of two records with another byte at a place.
-fn spoil(rt: &HostRuntime, name: &str, place: usize, byte: u8) -> io::Result<()> {
-    let memory = chain_of(rt.alloc(), &[record(2, b" # good\n"), record(0, b"text")])?;
-    let memory = spoilt(memory, place, byte);
-    pile(rt, name, &memory, 1, MORE)
-}
-
-// Records that are spoilt.
+// Chains of two records with another byte at a place.
 fn records(rt: &HostRuntime) -> io::Result<()> {
-    spoil(rt, "wrong index", 1, 3)?;
-    spoil(rt, "wrong check", 3, 0)?;
-    spoil(rt, "wrong text", 64 + 5, b'E')?;
-    spoil(rt, "61 bytes used", 64 + 2, 61)?;
-    spoil(rt, "255 bytes used", 64 + 2, 255)?;
-    spoil(rt, "unused byte", 64 + 63, 1)
+    for (name, place, byte) in [
+        ("wrong index", 1, 3),
+        ("wrong check", 3, 0),
+        ("wrong text", 64 + 5, b'E'),
+        ("61 bytes used", 64 + 2, 61),
+        ("255 bytes used", 64 + 2, 255),
+        ("unused byte", 64 + 63, 1),
+    ] {
+        let memory = chain_of(rt.alloc(), &[record(2, b" # good\n"), record(0, b"text")])?;
+        let memory = spoilt(memory, place, byte);
+        pile(rt, name, ChainStore::new(&memory, 1), MORE)?;
+    }
+    Ok(())
 }
 
-// Chains of as many records as count, and of more.
+// Chains of as many records as count, and of more. Calls and no table, since the texts are of several types.
 fn rings(rt: &HostRuntime) -> io::Result<()> {
     let memory = ring(rt.alloc(), 257)?;
     let round = ChainStore::new(front(&memory, 16384), 1);

@@ -8,37 +8,31 @@ use listing::print_reading;
 use std::io;
 use std::io::Read;
 use texts::store::ByteStore;
-use texts::text::Text;
 
-// How many bytes were read: as many as there are or fit, also where they come in short reads.
-fn fill<R: Read>(input: &mut R, buf: &mut [u8]) -> io::Result<usize>
-    ensures { IfOk result (λ n. n ≤ length buf.new) }
+// The bytes that were read: as many as there are or fit, also where they come in short reads.
+fn fill<'a, R: Read>(input: &mut R, room: &'a mut [u8]) -> io::Result<&'a [u8]>
+    ensures { IfOk result (λ bytes. length bytes.now ≤ length room.old) }
 {
     let mut n = 0;
-    for _ in 0..buf.len() {
-        let end = buf.len();
-        let got = input.read(&mut buf[n..end])?;
-        if got == 0 {
-            break;
+    // How far a read goes is known only then, so that no `for` counts it.
+    while n < room.len() {
+        match input.read(&mut room[n..])? {
+            0 => break,
+            got => n += got,
         }
-        n += got;
     }
-    Ok(n)
+    Ok(&room[..n])
 }
 
 fn run(rt: &HostRuntime) -> io::Result<()> {
-    let mut buf = [0; 16385];
-    let mut input = rt.stdin();
-    let n = fill(&mut input, &mut buf)?;
-    print_reading(rt, &ByteStore::new(&buf[0..n]))
+    // Fixed memory, as in firmware: a text of 16,384 bytes, and one byte more that tells of a longer one.
+    let mut room = [0; 16385];
+    print_reading(rt, &ByteStore::new(fill(&mut rt.stdin(), &mut room)?))
 }
 
 fn main(rt: HostRuntime) -> io::Result<()> {
-    match run(&rt) {
-        Ok(()) => Ok(()),
-        Err(error) => {
-            eprintln!(rt; "queries: input or output failed: {error}")?;
-            Err(error)
-        }
-    }
+    run(&rt).or_else(|error| {
+        eprintln!(rt; "queries: input or output failed: {error}")?;
+        Err(error)
+    })
 }

@@ -28,14 +28,11 @@ fn fills_what_belongs_and_no_more(rt: HostRuntime) {
     );
     assert_eq!(rt; n, 2);
     assert_eq!(rt; (queries[0], queries[1], queries[4]), (0, 4, 18));
-    assert_eq!(rt; (queries[24], queries[25], queries[26]), (8, 16, 1));
-    assert_eq!(rt;
-        (queries[47], queries[48], queries[71]),
-        (0, UNTOUCHED, UNTOUCHED)
-    );
-    assert_eq!(rt; (separators[0], separators[1]), (4, 8));
-    assert_eq!(rt; (separators[2], separators[3]), (UNTOUCHED, UNTOUCHED));
-    assert_eq!(rt; (outcome[0], outcome[4], outcome[5]), (0, 2, UNTOUCHED));
+    assert_eq!(rt; &queries[24..27], [8, 16, 1].as_slice());
+    assert_eq!(rt; queries[47], 0);
+    assert_eq!(rt; &queries[48..], [UNTOUCHED; 24].as_slice());
+    assert_eq!(rt; separators, [4, 8, UNTOUCHED, UNTOUCHED]);
+    assert_eq!(rt; outcome, [0, 0, 0, 0, 2, UNTOUCHED]);
 }
 
 #[test]
@@ -47,35 +44,37 @@ fn one_slot_too_few(rt: HostRuntime) {
         statement_fill(b"a, b", &mut queries, &mut separators, &mut outcome),
         0
     );
-    assert_eq!(rt; (outcome[0], outcome[1], outcome[4]), (4, 0, 2));
-    assert_eq!(rt; (queries[0], queries[46]), (UNTOUCHED, UNTOUCHED));
+    assert_eq!(rt; outcome, [4, 0, 0, 0, 2]);
+    assert_eq!(rt; queries, [UNTOUCHED; 47]);
     let mut queries = [UNTOUCHED; 48];
     let mut separators = [UNTOUCHED; 1];
     assert_eq!(rt;
         statement_fill(b"a, b", &mut queries, &mut separators, &mut outcome),
         0
     );
-    assert_eq!(rt; (outcome[0], outcome[4]), (4, 2));
-    assert_eq!(rt; (queries[0], separators[0]), (UNTOUCHED, UNTOUCHED));
+    assert_eq!(rt; outcome, [4, 0, 0, 0, 2]);
+    assert_eq!(rt; queries, [UNTOUCHED; 48]);
+    assert_eq!(rt; separators, [UNTOUCHED; 1]);
     // What is no reading is refused as that, slots or not.
     assert_eq!(rt; statement_fill(b"a,,b", &mut [], &mut [], &mut outcome), 0);
-    assert_eq!(rt; (outcome[0], outcome[1], outcome[4]), (3, 2, 0));
+    assert_eq!(rt; outcome, [3, 2, 0, 0, 0]);
 }
 
 #[test]
 fn nothing_and_one(rt: HostRuntime) {
     let mut outcome = [UNTOUCHED; 5];
     assert_eq!(rt; statement_fill(b" ", &mut [], &mut [], &mut outcome), 0);
-    assert_eq!(rt; (outcome[0], outcome[4]), (0, 0));
+    assert_eq!(rt; outcome, [0, 0, 0, 0, 0]);
     let mut queries = [UNTOUCHED; 24];
     assert_eq!(rt;
         statement_fill(b"dead", &mut queries, &mut [], &mut outcome),
         1
     );
-    assert_eq!(rt; (outcome[0], outcome[4], queries[1]), (0, 1, 4));
+    assert_eq!(rt; outcome, [0, 0, 0, 0, 1]);
+    assert_eq!(rt; queries[1], 4);
     assert_eq!(rt; statement_count(b"dead, dead and dead", &mut outcome), 3);
     assert_eq!(rt; statement_count(&[b'a'; 16385], &mut outcome), 0);
-    assert_eq!(rt; (outcome[0], outcome[1], outcome[2]), (1, 0, 5));
+    assert_eq!(rt; outcome, [1, 0, 5, 0, 0]);
 }
 
 #[test]
@@ -89,8 +88,8 @@ fn fields_and_parts(rt: HostRuntime) -> Result<(), Fail> {
     let mut out = [b'-'; 3];
     let mut outcome = [UNTOUCHED; 5];
     assert_eq!(rt; statement_part(b"abcd", 1, 3, &mut out, &mut outcome), 2);
-    assert_eq!(rt; (out[0], out[1], out[2]), (b'b', b'c', b'-'));
-    assert_eq!(rt; (outcome[0], outcome[4]), (0, 2));
+    assert_eq!(rt; out, *b"bc-");
+    assert_eq!(rt; outcome, [0, 0, 0, 0, 2]);
     assert_eq!(rt; statement_part(b"abcd", 4, 4, &mut out, &mut outcome), 0);
     assert_eq!(rt; outcome[0], 0);
     assert_eq!(rt; statement_part(b"abcd", 3, 5, &mut out, &mut outcome), 0);
@@ -105,22 +104,18 @@ fn fields_and_parts(rt: HostRuntime) -> Result<(), Fail> {
 #[test]
 fn chain_under_a_cover(rt: HostRuntime) {
     let mut memory = [0; 64];
-    memory[2] = 3;
-    memory[4] = b'x';
-    memory[5] = b'#';
-    memory[6] = b'y';
     // 3 + 120 + 35 + 121 is 279, which is 23 modulo 256.
-    memory[3] = 23;
+    memory[2..7].copy_from_slice(&[3, 23, b'x', b'#', b'y']);
     let mut outcome = [UNTOUCHED; 5];
     assert_eq!(rt; statement_chain_count(&memory, 1, &mut outcome), 1);
     let mut out = [b'-'; 4];
     assert_eq!(rt; statement_chain_text(&memory, 1, &mut out), 3);
-    assert_eq!(rt; (out[0], out[1], out[2], out[3]), (b'x', b' ', b' ', b'-'));
+    assert_eq!(rt; out, *b"x  -");
     memory[3] = 24;
     assert_eq!(rt; statement_chain_count(&memory, 1, &mut outcome), 0);
-    assert_eq!(rt; (outcome[0], outcome[1], outcome[2]), (1, 0, 4));
+    assert_eq!(rt; &outcome[..3], [1, 0, 4].as_slice());
     assert_eq!(rt; statement_chain_count(&[], 0, &mut outcome), 0);
-    assert_eq!(rt; (outcome[0], outcome[4]), (0, 0));
+    assert_eq!(rt; outcome, [0, 0, 0, 0, 0]);
 }
 
 #[test]
