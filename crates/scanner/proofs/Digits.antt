@@ -13,7 +13,7 @@ use Rattle.grammar.specs.Tokens.{any, some}
 use Rattle.scanner.specs.Position.{Position, Skips}
 use Rattle.scanner.proofs.Inside.{inside}
 use Rattle.scanner.proofs.Runs.{Running, begun, run_step, run_ended}
-use Rattle.scanner.proofs.Spans.{fits, looks, span_more, span_within}
+use Rattle.scanner.proofs.Spans.{fits, span_within}
 
 pub between_none : (t : List ℕ) (s : ℕ) → between t s s ≡ []
 between_none t s = ap (λ n. take n (drop s t)) (sub_self s)
@@ -92,14 +92,6 @@ counted_done h from at to n c t q d =
     let end = run_ended (look digit) from at c.running (rw d refl) in
     ((t ∙ end.0, end.1 ∙ ap Some (sym q)), c.sofar ∙ ap (λ p. h (value (between from.text from.place p))) (sym q))
 
--- where a digit stands, a run of digits has one at least
-pub some_any : (t : List ℕ) (p : ℕ) → digit (get_or t p 256) ≡ true → ends (some digit) t p ≡ ends (any digit) t p
-some_any t p d =
-    let l = digit_inside t p d in
-    let e : (p + 1) + span (fits (look digit)) (drop (p + 1) t) ≡ p + span (fits (look digit)) (drop p t) =
-    omega (arith, span_more (fits (look digit)) t p l (looks digit t p ∙ d)) in
-    rw d (ap Some e)
-
 -- taking the remainder before or after a digit is added is the same, at any modulus
 mod_digit : (M v d : ℕ) → ((v % M) * 10 + d) % M ≡ (v * 10 + d) % M
 mod_digit M v d =
@@ -109,9 +101,12 @@ mod_digit M v d =
     sym (ap (λ n. n % M) e ∙ add-mul-mod_self_left ((v % M) * 10 + d) M ((v / M) * 10))
 
 -- a digit more in wrapping arithmetic, at any modulus
+pub wrapped_digit : (M v n d : ℕ) → n ≡ v % M → ((n * 10) % M + d) % M ≡ (v * 10 + d) % M
+wrapped_digit M v n d e = mod-add-mod (n * 10) M d ∙ (ap (λ k. (k * 10 + d) % M) e ∙ mod_digit M v d)
+
+-- the same of a digit's code
 pub wrapped_more : (M v n d b : ℕ) → n ≡ v % M → d ≡ b - 48 → ((n * 10) % M + d) % M ≡ more v b % M
-wrapped_more M v n d b e f =
-    mod-add-mod (n * 10) M d ∙ (ap (λ k. (k * 10 + d) % M) e ∙ (mod_digit M v d ∙ ap (λ k. (v * 10 + k) % M) f))
+wrapped_more M v n d b e f = wrapped_digit M v n d e ∙ ap (λ k. (v * 10 + k) % M) f
 
 -- what digits were read as
 pub digits_are : {N : Type 0} (h : ℕ → N) (o : Option ℕ) (v : ℕ → ℕ) (n : N) (q : ℕ) → valued (λ e. h (v e)) o ≡ Some (n, q) → (o ≡ Some q) × (n ≡ h (v q))
