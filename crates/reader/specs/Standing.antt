@@ -4,8 +4,16 @@ use Rattle.texts.specs.declared.cell.Cell.{Cell}
 use Rattle.texts.specs.Codes as cell
 use Rattle.texts.specs.Trim.{between}
 
+-- the part of a text that is read: the text's cells, and the places from which and up to which it is read
+pub record Part : Type 0 where
+  pub cells : List Cell
+  pub start : ℕ
+  pub end : ℕ
+
 -- where a reader stands in its text
 pub record Standing : Type 0 where
+  -- the text below, and the part of it that is read
+  pub text : Part
   -- the codes of the text that is read
   pub codes : List ℕ
   -- how many queries stand before the place

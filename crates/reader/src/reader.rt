@@ -26,7 +26,7 @@ impl<'a, T: Text> Model for Reader<'a, T> {
 
     ghost Value = { Standing };
 
-    ghost view = { λ r. record { codes = shown r.text.start r.text.end (T.Text.cells r.text.inner.now); k = r.k; place = r.place } };
+    ghost view = { λ r. record { text = record { cells = T.Text.cells r.text.inner.now; start = r.text.start; end = r.text.end }; codes = shown r.text.start r.text.end (T.Text.cells r.text.inner.now); k = r.k; place = r.place } };
 
     ghost invariant = { λ r. Within r.k r.place };
 }
@@ -46,10 +46,12 @@ impl<'a, T: Text> Reader<'a, T> {
 
     // The next query, or none behind the last; a refusal leaves the reader as it was.
     pub fn step(&mut self) -> Result<Option<SingleQuery>, Refusal>
+        ensures text { self.new.text ≡ self.old.text }
         ensures same { self.new.codes ≡ self.old.codes }
         ensures value { result ≡ stepped self.old.codes self.old.k self.old.place }
         ensures count { self.new.k ≡ count_after result self.old.k }
         ensures after { self.new.place ≡ place_after result self.old.place }
+        ensures before { Within self.old.k self.old.place }
         ensures within { Within self.new.k self.new.place }
     {
         if self.place >= self.text.len() {
@@ -64,10 +66,12 @@ impl<'a, T: Text> Reader<'a, T> {
 
     // One query back, found from the start again; at the start a refusal, which leaves the reader as it was.
     pub fn step_back(&mut self) -> Result<(), Refusal>
+        ensures text { self.new.text ≡ self.old.text }
         ensures same { self.new.codes ≡ self.old.codes }
         ensures value { result ≡ backed self.old.k }
         ensures count { self.new.k ≡ self.old.k - 1 }
         ensures after { self.new.place ≡ place_back self.old.codes self.old.k self.old.place }
+        ensures before { Within self.old.k self.old.place }
         ensures within { Within self.new.k self.new.place }
     {
         if self.k == 0 {
@@ -83,9 +87,11 @@ impl<'a, T: Text> Reader<'a, T> {
 
     // Stands before the first query again.
     pub fn start_over(&mut self)
+        ensures text { self.new.text ≡ self.old.text }
         ensures same { self.new.codes ≡ self.old.codes }
         ensures count { self.new.k ≡ 0 }
         ensures after { self.new.place ≡ 0 }
+        ensures before { Within self.old.k self.old.place }
     {
         self.k = 0;
         self.place = 0;

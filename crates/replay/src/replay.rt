@@ -12,8 +12,10 @@ use texts::text::Text;
 // One call. A `match`, since a call is the caller's data, which the law goes through.
 #[tactic(auto, using(crate::proofs::Made::asked_call))]
 pub fn ask<T: Text>(reader: &mut Reader<T>, call: Call) -> Answer
+    ensures text { reader.new.text ≡ reader.old.text }
     ensures same { reader.new.codes ≡ reader.old.codes }
     ensures asked { Asked reader.old.codes reader.old.k reader.old.place call result reader.new.k reader.new.place }
+    ensures before { Within reader.old.k reader.old.place }
     ensures within { Within reader.new.k reader.new.place }
 {
     match call {

@@ -4,6 +4,7 @@ ghost use Rattle.std.specs.Result.{result_err};
 ghost use Rattle.texts.specs.Codes as cell;
 ghost use Rattle.texts.specs.Trim.{trimmed};
 ghost use Rattle.grammar.specs.declared.query.SingleQuery.{SingleQuery as Query};
+ghost use Rattle.reader.specs.Standing.{Within};
 ghost use Rattle.reader.specs.Start.{start_refusal};
 ghost use Rattle.whole.specs.Walks.{answer_of, Walks, Unstarted};
 
@@ -39,7 +40,9 @@ impl Walk {
 
 // Hands every query from the start on to the sink, up to the end or a refusal.
 fn hand_over<T: Text, S: Sink>(reader: &mut Reader<T>, sink: &mut S) -> Result<(), Refusal>
+    ensures text { reader.new.text ≡ reader.old.text }
     ensures same { reader.new.codes ≡ reader.old.codes }
+    ensures before { Within reader.old.k reader.old.place }
     ensures walked { Walks S.Sink.takes reader.old.codes (record { given = reader.new.k; refusal = result_err result }) sink.old sink.new }
 {
     reader.start_over();
@@ -56,9 +59,11 @@ fn hand_over<T: Text, S: Sink>(reader: &mut Reader<T>, sink: &mut S) -> Result<(
 // Steps through a reader's text from its start, and hands every query that is given to the sink.
 // The reader then stands at the start.
 pub fn walk_through<T: Text, S: Sink>(reader: &mut Reader<T>, sink: &mut S) -> Walk
+    ensures text { reader.new.text ≡ reader.old.text }
     ensures same { reader.new.codes ≡ reader.old.codes }
     ensures count { reader.new.k ≡ 0 }
     ensures after { reader.new.place ≡ 0 }
+    ensures before { Within reader.old.k reader.old.place }
     ensures walked { Walks S.Sink.takes reader.old.codes result sink.old sink.new }
 {
     let refusal = hand_over(reader, sink).err();

@@ -1,5 +1,6 @@
 // The whole reading of a text, in the caller's slots: counted first, and filled in only where it fits.
 ghost use Rattle.std.specs.Prelude.{◌≡◌, ℕ, MatchResult};
+ghost use Rattle.reader.specs.Standing.{Within};
 ghost use Rattle.whole.specs.Walks.{Counted};
 ghost use Rattle.whole.specs.Whole.{Counts, Barred, enough, Fits, Why, Filled, Refused};
 
@@ -23,9 +24,11 @@ impl Sink for Nothing {
 
 // How many queries stepping through a text gives. The reader then stands at the start.
 pub fn count<T: Text>(reader: &mut Reader<T>) -> Result<usize, Refusal>
+    ensures text { reader.new.text ≡ reader.old.text }
     ensures same { reader.new.codes ≡ reader.old.codes }
     ensures none { reader.new.k ≡ 0 }
     ensures start { reader.new.place ≡ 0 }
+    ensures before { Within reader.old.k reader.old.place }
     ensures counted { Counted reader.old.codes result }
 {
     walk_through(reader, &mut Nothing).answer()
