@@ -1,5 +1,5 @@
 // A list in slots that the caller lends, written once for every kind of record.
-ghost use Rattle.std.specs.Prelude.{◌≡◌, length, take, Some, None, MatchOption, IfErr, is_ok, nat_lt};
+ghost use Rattle.std.specs.Prelude.{◌≡◌, ℕ, ◌<◌, length, take, Some, None, MatchOption, IfErr, is_ok, nat_lt, slice_set};
 ghost use Rattle.std.specs.List.{slice_get};
 ghost use Rattle.whole.specs.Slots.{pushed_slots, pushed_len};
 
@@ -9,6 +9,13 @@ ghost use Rattle.whole.specs.Slots.{pushed_slots, pushed_len};
 pub struct List<'a, R> {
     slots: &'a mut [R],
     len: usize,
+}
+
+fn put<R: Drop>(slots: &mut [R], at: usize, record: R)
+    requires { at < length slots.old }
+    ensures { slots.new ≡ slice_set slots.old at «record» }
+{
+    slots[at] = record;
 }
 
 impl<'a, R: Drop> List<'a, R> {
@@ -32,7 +39,7 @@ impl<'a, R: Drop> List<'a, R> {
         if self.len >= self.slots.len() {
             return Err(record);
         }
-        self.slots[self.len] = record;
+        put(self.slots, self.len, record);
         self.len += 1;
         Ok(())
     }
