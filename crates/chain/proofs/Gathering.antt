@@ -1,5 +1,5 @@
 -- The text of the pieces, byte by byte.
-use Rattle.std.proofs.Common.{true, false, leb, ◌≢◌, Ok, ◌≡◌, ℕ, zero, suc, ◌+◌, ◌-◌, ◌<◌, ◌≤◌, List, [], ◌∷◌, ◌++◌, length, get_or, drop, Some, None, Option, sym, refl, ap, ◌∙◌, ⊎_elim, arith, length-append, length-drop, length-take}
+use Rattle.std.proofs.Common.{true, false, leb, ◌≢◌, Ok, ◌≡◌, ℕ, zero, suc, ◌+◌, ◌-◌, ◌<◌, ◌≤◌, List, [], ◌∷◌, ◌++◌, length, get_or, drop, Some, None, Option, sym, refl, ap, ◌∙◌, ⊎_elim, subst, arith, length-append, length-drop, length-take}
 use base.Stored.{Coded-set, coded_list}
 use lib.ListN.{length-map}
 use mathlib.Core.Logic.{∥∥₁_elim}
@@ -7,7 +7,7 @@ use Rattle.std.specs.List.{slice_get}
 use Rattle.std.specs.List.Sorted.{IsNonDecreasingBy, IsPartitionPoint}
 use Rattle.std.specs.Option.{MatchOption}
 use Rattle.std.proofs.lemmas.List.{get_or-take, get_or-drop, append_assoc, append-nil}
-use Rattle.std.proofs.lemmas.Option.{slice_get_past, slice_get-get_or}
+use Rattle.std.proofs.lemmas.Option.{slice_get_past, slice_get-get_or, slice_get_within, get_or_from_slice_get}
 use Rattle.std.proofs.lemmas.Bool.{cases_lt, leb-true, leb-false}
 use Rattle.texts.specs.declared.cell.Fault.{Fault}
 use Rattle.texts.specs.declared.cell.Cell.{Cell}
@@ -49,6 +49,19 @@ rising memory own size (q ∷ ps) h zero zero d le l = omega arith
 rising memory own size (q ∷ ps) h zero (suc j) d le l = behind_own memory q.end size ps j d h.1.1.1 (omega arith)
 rising memory own size (q ∷ ps) h (suc i) zero d le l = absurd (omega arith)
 rising memory own size (q ∷ ps) h (suc i) (suc j) d le l = rising memory q.end size ps h.1.1.1 i j d (omega arith) (omega arith)
+
+-- a piece begins where those before it end, or later
+before_own : (memory : List ℕ) (own size : ℕ) (ps : List Piece) (j : ℕ) (d : Piece) → Placed memory own size ps → j < length ps → own ≤ (get_or ps j d).start
+before_own memory own size [] j d h l = absurd (omega arith)
+before_own memory own size (q ∷ ps) zero d h l = omega (arith, h.0)
+before_own memory own size (q ∷ ps) (suc j) d h l = omega (arith, h.0, h.1.0, before_own memory q.end size ps j d h.1.1.1 (omega arith))
+
+pub ordered : (memory : List ℕ) (own size : ℕ) (ps : List Piece) → Placed memory own size ps → (i j : ℕ) (d : Piece) → i < j → j < length ps → (get_or ps i d).end ≤ (get_or ps j d).start
+ordered memory own size [] h i j d k l = absurd (omega arith)
+ordered memory own size (q ∷ ps) h zero zero d k l = absurd (omega arith)
+ordered memory own size (q ∷ ps) h zero (suc j) d k l = before_own memory q.end size ps j d h.1.1.1 (omega arith)
+ordered memory own size (q ∷ ps) h (suc i) zero d k l = absurd (omega arith)
+ordered memory own size (q ∷ ps) h (suc i) (suc j) d k l = ordered memory q.end size ps h.1.1.1 i j d (omega arith) (omega arith)
 
 -- what a piece says of a place
 pub record Within (memory text : List ℕ) (own place : ℕ) (q : Piece) : Type 0 where
@@ -140,3 +153,13 @@ searched memory size ps k place h point =
       within = w.within;
       byte = ap (slice_get (gathered memory ps)) (omega arith) ∙ w.byte;
     })
+
+-- a piece between whose ends a place lies holds it
+pub held : (memory : List ℕ) (size : ℕ) (ps : List Piece) (k place : ℕ) (q : Piece) → Placed memory 0 size ps → slice_get ps k ≡ Some q → q.start ≤ place → place < q.end → Holds memory (gathered memory ps) place q
+held memory size ps k place q h is low high =
+    let l = slice_get_within ps k q is in
+    let at : (d : Piece) → get_or ps k d ≡ q = λ d. get_or_from_slice_get ps k q d is in
+    let before : (j : ℕ) (d : Piece) → j < k → (get_or ps j d).end ≤ place = λ j d m. omega (arith, ordered memory 0 size ps h j k d m l, ap (λ x. x.start) (at d), low) in
+    let behind : (j : ℕ) (d : Piece) → k ≤ j → j < length ps → place < (get_or ps j d).end = λ j d m n. omega (arith, rising memory 0 size ps h k j d m n, ap (λ x. x.end) (at d), high) in
+    let w : Within memory (gathered memory ps) 0 place q = subst (λ o. MatchOption o (size ≤ place) (λ x. Within memory (gathered memory ps) 0 place x)) is (found memory 0 size ps k place h before behind (omega arith)) in
+    record { low = w.low; within = w.within; byte = ap (slice_get (gathered memory ps)) (omega arith) ∙ w.byte }

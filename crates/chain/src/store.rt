@@ -3,7 +3,7 @@ ghost use Rattle.std.specs.Prelude.{◌≡◌, ℕ, ◌≤◌, List, ◌++◌, l
 ghost use Rattle.std.specs.Option.{MatchOption};
 ghost use Rattle.texts.specs.declared.cell.Cell.{Cell};
 ghost use Rattle.texts.specs.Cells.{answer, bytes};
-ghost use Rattle.chain.specs.Chains.{chained, Chain};
+ghost use Rattle.chain.specs.Chains.{records_of, chained, Chain};
 ghost use Rattle.chain.specs.Short.{chained_short};
 ghost use Rattle.chain.specs.Walks.{list_of, Placed, Placed-prop, Holds, gathered, ending};
 
@@ -18,6 +18,7 @@ pub struct ChainStore<'a> {
     first: u16,
     walk: Walk,
     ghost within: { walk.size ≤ 15360 },
+    ghost counted: { length (list_of walk.pieces) ≤ records_of memory.now },
     ghost placed: { Placed memory.now 0 walk.size (list_of walk.pieces) } by { Placed-prop memory.now 0 walk.size (list_of walk.pieces) },
     ghost whole: { ∥ chained memory.now first ≡ bytes (gathered memory.now (list_of walk.pieces)) ++ ending walk.damage ∥₁ },
 }
@@ -55,11 +56,17 @@ impl<'a> ChainStore<'a> {
         }
     }
 
-    // The piece that holds a place, if one does, by halving.
+    // The piece that holds a place, if one does. Where all records before it are full, it is the one that their size
+    // tells; else it is found by halving.
     fn piece_at(&self, place: usize) -> Option<Piece>
         ensures { MatchOption result (self.now.walk.size ≤ place) (λ piece. Holds self.now.memory.now (gathered self.now.memory.now (list_of self.now.walk.pieces)) place piece) }
     {
         let pieces = self.walk.pieces.as_slice();
+        if let Some(piece) = pieces.get(place / 60) {
+            if usize::from(piece.start) <= place && place < usize::from(piece.end) {
+                return Some(*piece);
+            }
+        }
         let at = pieces.partition_point(|piece| usize::from(piece.end) <= place);
         pieces.get(at).copied()
     }
