@@ -17,7 +17,7 @@ pub enum Class {
 }
 
 // A byte of the class; what is no byte is in none.
-pub(crate) fn is_in(class: Class, byte: Option<u8>) -> bool
+pub fn is_in(class: Class, byte: Option<u8>) -> bool
     ensures { result ≡ within class (byte_code byte) }
 {
     match (class, byte) {

@@ -64,7 +64,7 @@ impl<T: Text> Cursor<T> {
     }
 
     // A run of digits.
-    fn digits<N: Number>(&mut self) -> N
+    pub fn digits<N: Number>(&mut self) -> N
         ensures took { Skips (any digit) self.old self.new }
         ensures value { result ≡ N.of_value (value (between self.old.text self.old.place self.new.place)) }
     {

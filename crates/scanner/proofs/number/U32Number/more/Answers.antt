@@ -1,6 +1,9 @@
-use Rattle.std.proofs.Common.{◌+◌, ◌*◌, ◌%◌, ap, ◌∙◌}
-use Rattle.scanner.proofs.Digits.{wrapped_digit}
+use Rattle.std.proofs.Common.{◌≡◌, ◌+◌, ◌-◌, ◌*◌, ◌%◌, sym, ap, ◌∙◌, arith}
+use Rattle.scanner.proofs.Digits.{wrapped_more}
 use Rattle.scanner.proofs.number.U32Number.more.Goals as goal
 
 pub returns : goal.returns
-returns c v e = wrapped_digit 4294967296 v c.args.self c.from.result e ∙ ap (λ d. (v * 10 + d) % 4294967296) c.from.ensures
+returns c v e =
+    let d = c.from.result in
+    let as_code : d ≡ (d + 48) - 48 = omega arith in
+    wrapped_more 4294967296 v c.args.self d (d + 48) e as_code ∙ ap (λ k. (v * 10 + k) % 4294967296) (sym as_code ∙ c.from.ensures)
