@@ -1,14 +1,14 @@
 -- The text of the pieces, byte by byte.
-use Rattle.std.proofs.Common.{true, false, leb, ◌≢◌, Ok, ◌≡◌, ℕ, zero, suc, ◌+◌, ◌-◌, ◌<◌, ◌≤◌, List, [], ◌∷◌, ◌++◌, length, get_or, drop, Some, None, Option, sym, refl, ap, ◌∙◌, ⊎_elim, subst, arith, length-append, length-drop, length-take}
+use Rattle.std.proofs.Common.{◌≢◌, Ok, ◌≡◌, ℕ, zero, suc, ◌+◌, ◌-◌, ◌<◌, ◌≤◌, List, [], ◌∷◌, ◌++◌, length, get_or, drop, Some, None, Option, sym, refl, ap, ◌∙◌, ⊎_elim, arith, length-append, length-drop, length-take}
 use base.Stored.{Coded-set, coded_list}
 use lib.ListN.{length-map}
 use mathlib.Core.Logic.{∥∥₁_elim}
 use Rattle.std.specs.List.{slice_get}
-use Rattle.std.specs.List.Sorted.{IsNonDecreasingBy, IsPartitionPoint}
+use Rattle.std.specs.List.Sorted.{IsNonDecreasingBy}
 use Rattle.std.specs.Option.{MatchOption}
-use Rattle.std.proofs.lemmas.List.{get_or-take, get_or-drop, append_assoc, append-nil}
-use Rattle.std.proofs.lemmas.Option.{slice_get_past, slice_get-get_or, slice_get_within, get_or_from_slice_get}
-use Rattle.std.proofs.lemmas.Bool.{cases_lt, leb-true, leb-false}
+use Rattle.std.proofs.lemmas.List.{get_or-take, get_or-drop, get_or_default, append_assoc, append-nil}
+use Rattle.std.proofs.lemmas.Option.{slice_get_past, slice_get-get_or}
+use Rattle.std.proofs.lemmas.Bool.{cases_lt}
 use Rattle.texts.specs.declared.cell.Fault.{Fault}
 use Rattle.texts.specs.declared.cell.Cell.{Cell}
 use Rattle.texts.specs.declared.cell.Cell.TheVariants.{Byte}
@@ -49,19 +49,6 @@ rising memory own size (q ∷ ps) h zero zero d le l = omega arith
 rising memory own size (q ∷ ps) h zero (suc j) d le l = behind_own memory q.end size ps j d h.1.1.1 (omega arith)
 rising memory own size (q ∷ ps) h (suc i) zero d le l = absurd (omega arith)
 rising memory own size (q ∷ ps) h (suc i) (suc j) d le l = rising memory q.end size ps h.1.1.1 i j d (omega arith) (omega arith)
-
--- a piece begins where those before it end, or later
-before_own : (memory : List ℕ) (own size : ℕ) (ps : List Piece) (j : ℕ) (d : Piece) → Placed memory own size ps → j < length ps → own ≤ (get_or ps j d).start
-before_own memory own size [] j d h l = absurd (omega arith)
-before_own memory own size (q ∷ ps) zero d h l = omega (arith, h.0)
-before_own memory own size (q ∷ ps) (suc j) d h l = omega (arith, h.0, h.1.0, before_own memory q.end size ps j d h.1.1.1 (omega arith))
-
-pub ordered : (memory : List ℕ) (own size : ℕ) (ps : List Piece) → Placed memory own size ps → (i j : ℕ) (d : Piece) → i < j → j < length ps → (get_or ps i d).end ≤ (get_or ps j d).start
-ordered memory own size [] h i j d k l = absurd (omega arith)
-ordered memory own size (q ∷ ps) h zero zero d k l = absurd (omega arith)
-ordered memory own size (q ∷ ps) h zero (suc j) d k l = before_own memory q.end size ps j d h.1.1.1 (omega arith)
-ordered memory own size (q ∷ ps) h (suc i) zero d k l = absurd (omega arith)
-ordered memory own size (q ∷ ps) h (suc i) (suc j) d k l = ordered memory q.end size ps h.1.1.1 i j d (omega arith) (omega arith)
 
 -- what a piece says of a place
 pub record Within (memory text : List ℕ) (own place : ℕ) (q : Piece) : Type 0 where
@@ -146,20 +133,39 @@ module _ (cells : List Cell) (bs : List ℕ) (damage : Option Fault) (n : ℕ) (
       ∙ ⊎_elim (λ h. ap told (nth_text bs (ending damage) p h) ∙ ap Ok (sym (slice_get-get_or bs p 0 h))) (λ h. ap told (nth_end bs (ending damage) p h ∙ past damage (p - length bs) (omega arith)) ∙ ap Ok (sym (slice_get_past bs p h))) (cases_lt p (length bs))
 
 -- the piece that a search by ends gives
-pub searched : (memory : List ℕ) (size : ℕ) (ps : List Piece) (k place : ℕ) → Placed memory 0 size ps → IsPartitionPoint (λ q. leb q.end place ≡ true) (λ q. leb q.end place ≡ false) ps k → MatchOption (slice_get ps k) (size ≤ place) (λ q. Holds memory (gathered memory ps) place q)
-searched memory size ps k place h point =
-    MatchOption_then (slice_get ps k) (size ≤ place) (found memory 0 size ps k place h (λ j d l. leb-true (get_or ps j d).end place (point.0 j d (omega arith) l)) (λ j d l m. leb-false (get_or ps j d).end place (point.1 j d l m)) (omega arith)) (λ q w. record {
+-- halving: the pieces before `low` end before a place or at it, those from `high` on behind it
+pub record Halved (ps : List Piece) (place low high : ℕ) : Type 0 where
+  pub order : low ≤ high
+  pub inside : high ≤ length ps
+  pub before : (j : ℕ) (d : Piece) → j < low → (get_or ps j d).end ≤ place
+  pub behind : (j : ℕ) (d : Piece) → high ≤ j → j < length ps → place < (get_or ps j d).end
+
+pub halved_all : (ps : List Piece) (place n : ℕ) → n ≡ length ps → Halved ps place 0 n
+halved_all ps place n e =
+    record { order = omega arith; inside = omega (arith, e); before = λ j d l. absurd (omega arith); behind = λ j d l m. absurd (omega (arith, e)) }
+
+pub halved_on : (ps : List Piece) (place low high m : ℕ) (d : Piece) → IsNonDecreasingBy (λ q. q.end) ps → Halved ps place low high → m < high → (get_or ps m d).end ≤ place → Halved ps place (m + 1) high
+halved_on ps place low high m d r h l e =
+    record {
+      order = omega arith;
+      inside = h.inside;
+      before = λ j x k. omega (arith, r j m x (omega arith) (omega (arith, h.inside)), ap (λ q. q.end) (get_or_default ps m x d (omega (arith, h.inside))), e);
+      behind = h.behind;
+    }
+
+pub halved_back : (ps : List Piece) (place low high m : ℕ) (d : Piece) → IsNonDecreasingBy (λ q. q.end) ps → Halved ps place low high → low ≤ m → m < high → place < (get_or ps m d).end → Halved ps place low m
+halved_back ps place low high m d r h o l e =
+    record {
+      order = o;
+      inside = omega (arith, h.inside);
+      before = h.before;
+      behind = λ j x k n. omega (arith, r m j x k n, ap (λ q. q.end) (get_or_default ps m x d (omega (arith, h.inside))), e);
+    }
+
+pub searched : (memory : List ℕ) (size : ℕ) (ps : List Piece) (low high place : ℕ) → Placed memory 0 size ps → Halved ps place low high → high ≤ low → MatchOption (slice_get ps low) (size ≤ place) (λ q. Holds memory (gathered memory ps) place q)
+searched memory size ps low high place h halved done =
+    MatchOption_then (slice_get ps low) (size ≤ place) (found memory 0 size ps low place h halved.before (λ j d l m. halved.behind j d (omega (arith, done, l)) m) (omega arith)) (λ q w. record {
       low = w.low;
       within = w.within;
       byte = ap (slice_get (gathered memory ps)) (omega arith) ∙ w.byte;
     })
-
--- a piece between whose ends a place lies holds it
-pub held : (memory : List ℕ) (size : ℕ) (ps : List Piece) (k place : ℕ) (q : Piece) → Placed memory 0 size ps → slice_get ps k ≡ Some q → q.start ≤ place → place < q.end → Holds memory (gathered memory ps) place q
-held memory size ps k place q h is low high =
-    let l = slice_get_within ps k q is in
-    let at : (d : Piece) → get_or ps k d ≡ q = λ d. get_or_from_slice_get ps k q d is in
-    let before : (j : ℕ) (d : Piece) → j < k → (get_or ps j d).end ≤ place = λ j d m. omega (arith, ordered memory 0 size ps h j k d m l, ap (λ x. x.start) (at d), low) in
-    let behind : (j : ℕ) (d : Piece) → k ≤ j → j < length ps → place < (get_or ps j d).end = λ j d m n. omega (arith, rising memory 0 size ps h k j d m n, ap (λ x. x.end) (at d), high) in
-    let w : Within memory (gathered memory ps) 0 place q = subst (λ o. MatchOption o (size ≤ place) (λ x. Within memory (gathered memory ps) 0 place x)) is (found memory 0 size ps k place h before behind (omega arith)) in
-    record { low = w.low; within = w.within; byte = ap (slice_get (gathered memory ps)) (omega arith) ∙ w.byte }

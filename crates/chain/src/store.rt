@@ -56,19 +56,23 @@ impl<'a> ChainStore<'a> {
         }
     }
 
-    // The piece that holds a place, if one does. Where all records before it are full, it is the one that their size
-    // tells; else it is found by halving.
+    // The piece that holds a place, if one does, by halving. A loop, which the library's `partition_point` would do too,
+    // but in half as much time again.
     fn piece_at(&self, place: usize) -> Option<Piece>
         ensures { MatchOption result (self.now.walk.size ≤ place) (λ piece. Holds self.now.memory.now (gathered self.now.memory.now (list_of self.now.walk.pieces)) place piece) }
     {
         let pieces = self.walk.pieces.as_slice();
-        if let Some(piece) = pieces.get(place / 60) {
-            if usize::from(piece.start) <= place && place < usize::from(piece.end) {
-                return Some(*piece);
+        let mut low = 0;
+        let mut high = pieces.len();
+        while low < high {
+            let middle = (low + high) / 2;
+            if usize::from(pieces[middle].end) <= place {
+                low = middle + 1;
+            } else {
+                high = middle;
             }
         }
-        let at = pieces.partition_point(|piece| usize::from(piece.end) <= place);
-        pieces.get(at).copied()
+        pieces.get(low).copied()
     }
 
     fn byte_at(&self, place: usize) -> Option<u8>
